@@ -1,0 +1,78 @@
+-- Laws of the operand checks: tests over lists step by step, and the first refusal that is met.
+use mathlib.Core.Path.{_≡_, refl, sym, ap, _∙_}
+use mathlib.Core.Bool.{Bool, true, false, cond, not, _&&_, false≢true}
+use mathlib.Core.List.{List, [], _∷_, map}
+use Prim.Native.Nat.{ℕ, zero, suc, _+_, _*_, _/_, _%_, _^_, _≤_, _<_}
+use native.Mathlib.Nat.{div-eq-of-lt, le-div-iff-mul-le, mul-le-mul-right, suc-mul, one-mul}
+use native.Mathlib.Numerals.{add-one}
+use native.Mathlib.Omega.{arith}
+use lib.Dec.{leb, eqb, eqb·suc-suc, leb·zero}
+use lib.ListN.{length, getD, drop, length-map, length-append, drop-of-length-le}
+use lib.Seq.{drop-cons}
+use lib.Pow.{pow-pos, pow-mono}
+use lib.Count.{ones, onesIn}
+use borrow.Author.Tests.{eq-eqb, ne-eqb, le-leb, leb-true, leb-false, eqb-true}
+use Rattle.rules.specs.Lists.{below, keep, every}
+use Rattle.rules.specs.Kinds.{within}
+use Rattle.rules.specs.Ways.{nominated, ways, taken, waySizes}
+use Rattle.rules.specs.Checks.{Operands, firstMet, wayCount, chargeOf, marksFit, operandCode, quoteOf}
+use Rattle.rules.specs.declared.check.Quote.{Quote}
+
+module _ {A : Type 0} (f : A → Bool) where
+  -- a test on every element, one element after the other
+  module _ (xs : List A) (i : ℕ) (ahead : every f (drop i xs) ≡ every f xs) where
+    pub every-failed : (d : A) → i < length xs → f (getD xs i d) ≡ false → false ≡ every f xs
+    unfolding every
+    every-failed d inside e = sym (ap (every f) (drop-cons xs i d inside) ∙ rw e) ∙ ahead
+
+    pub every-passed : (d : A) → i < length xs → f (getD xs i d) ≡ true → every f (drop (i + 1) xs) ≡ every f xs
+    unfolding every
+    every-passed d inside e = rw add-one (sym (ap (every f) (drop-cons xs i d inside) ∙ rw e) ∙ ahead)
+
+    pub every-done : length xs ≤ i → true ≡ every f xs
+    unfolding every
+    every-done end = sym (ap (every f) (drop-of-length-le xs end)) ∙ ahead
+
+pub small-quotient : (t n : ℕ) → 0 < n → eqb (t / n) 0 ≡ not (leb n t)
+small-quotient t n some = go (leb n t) refl
+  where
+    go : (b : Bool) → leb n t ≡ b → eqb (t / n) 0 ≡ not b
+    go false e = eq-eqb (t / n) 0 (div-eq-of-lt (leb-false n t e))
+    go true e =
+        let whole : 1 * n ≤ t = omega (arith, leb-true n t e, one-mul n) in
+        let quotient : 1 ≤ t / n = le-div-iff-mul-le some .1 whole in
+        ne-eqb (t / n) 0 (λ q. omega arith)
+
+and-left : (a b : Bool) → a && b ≡ true → a ≡ true
+and-left true b e = refl
+and-left false b e = e
+
+and-right : (a b : Bool) → a && b ≡ true → b ≡ true
+and-right true b e = e
+and-right false b e = absurd (false≢true e)
+
+pub within-le : (lo x hi : ℕ) → leb lo x && leb x hi ≡ true → x ≤ hi
+within-le lo x hi both = leb-true x hi (and-right (leb lo x) (leb x hi) both)
+
+pub eighty-marks : (g : ℕ) (marks : List ℕ) → marksFit g marks ≡ true → length marks ≡ 80
+unfolding marksFit
+eighty-marks g marks fit = eqb-true (length marks) 80 (and-left _ _ (and-left _ _ fit))
+
+-- a row of the table of refusals that is not met, and one that is
+pub row-passed : (test : Bool) (code : ℕ) (rows : List (Bool × ℕ)) → test ≡ false → firstMet ((test, code) ∷ rows) ≡ firstMet rows
+unfolding firstMet
+row-passed test code rows e = rw e
+
+pub row-met : (test : Bool) (code : ℕ) (rows : List (Bool × ℕ)) → test ≡ true → firstMet ((test, code) ∷ rows) ≡ code
+unfolding firstMet
+row-met test code rows e = rw e
+
+pub refusal : (o : Operands) {code : ℕ} → operandCode o ≡ code → eqb code 0 ≡ false →
+    _≡_ {A = Quote} (record { code = code; ways = 0; charge = 0 }) (quoteOf o)
+unfolding quoteOf
+refusal o met some = rw (met, some)
+
+pub acceptance : (o : Operands) → operandCode o ≡ 0 →
+    _≡_ {A = Quote} (record { code = 0; ways = wayCount o; charge = chargeOf o }) (quoteOf o)
+unfolding quoteOf
+acceptance o met = rw met

@@ -1,0 +1,15 @@
+pub mod KeepLaws
+pub mod WayLaws
+pub mod MarkLaws
+pub mod PriceLaws
+pub mod CheckLaws
+pub mod TableLaws
+pub mod PrizeLaws
+pub mod CutSigned
+pub mod CutRounds
+pub mod CutStates
+pub mod CutPayouts
+pub mod SumLaws
+pub mod ShareLaws
+pub mod SettleLaws
+pub mod Examples

@@ -1,0 +1,41 @@
+-- The bounds that some parts ask of their callers, so that no sum or product passes 64 bits. Sell's operand checks and the laws on reached
+-- houses give them.
+use Prim.Native.Nat.{ℕ, _+_, _*_, _-_, _≤_, _<_, _^_}
+use mathlib.Core.Path.{_≡_}
+use mathlib.Core.List.{List}
+use lib.ListN.{drop}
+use Rattle.rules.specs.Ways.{taken}
+use Rattle.rules.specs.Price.{chargeLimit}
+use Rattle.rules.specs.declared.terms.Terms.{Terms}
+use Rattle.rules.specs.declared.jackpot.Jackpot.{Jackpot}
+
+-- what the operand checks give of a ticket's terms
+pub record Sound (t : Terms) : Type 0 where
+  pub groups : t .groups ≤ 8
+  pub stake : t .stake ≤ chargeLimit
+
+-- a place in the walk over a ticket's ways: so many of at most 8 groups are left to take or to leave, and the mask has the choice of the others
+pub record Place (left mask : ℕ) : Type 0 where
+  pub groups : left ≤ 8
+  pub chosen : mask < 2 ^ (8 - left)
+
+-- what the walk carries to that place: the bytes of the groups taken so far, added
+pub record Carried (left mask total : ℕ) (figures : List ℕ) : Type 0 where
+  pub added : total ≡ taken mask (drop left figures)
+  pub small : total ≤ 255 * (8 - left)
+
+-- a jackpot whose pools and debt can grow by one game's paid stakes and a seed
+pub record Roomy (j : Jackpot) : Type 0 where
+  pub primary : j .primary < 2 ^ 63
+  pub secondary : j .secondary < 2 ^ 63
+  pub reimbursement : j .reimbursement < 2 ^ 63
+  pub debt : j .debt < 2 ^ 63
+
+-- a ticket's winning ways among all winning ways, whose stakes are s together
+pub record Sharing (p s n stake : ℕ) : Type 0 where
+  pub pool : p < 2 ^ 63
+  pub limit : stake ≤ chargeLimit
+  pub total : s < 2 ^ 40
+  pub won : 0 < s
+  pub part : n * stake ≤ s
+  pub few : n < 2 ^ 16

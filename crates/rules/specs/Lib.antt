@@ -1,0 +1,12 @@
+pub mod Lists
+pub mod Kinds
+pub mod Ways
+pub mod Price
+pub mod Checks
+pub mod Schedules
+pub mod Prize
+pub mod Cut
+pub mod Jackpots
+pub mod Settle
+pub mod Bounds
+pub mod Passes

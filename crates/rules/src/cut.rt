@@ -1,0 +1,103 @@
+// The cut of a game's major prizes (rules 12.3 to 12.5), without a list of them.
+ghost use mathlib.Core.Path.{_≡_};
+ghost use Prim.Native.Nat.{_+_, _*_, _-_, _/_, _%_, _≤_, _<_, _^_, max};
+ghost use Rattle.rules.specs.Passes.{uncut, firstCut, payUnder, nextBelow};
+
+// A round of the cut: the floored prizes are those below `below`, `count` of them, and the others make `base` cents. Nothing is cut where
+// `cut` is false.
+pub struct Cut {
+    pub cut: bool,
+    pub below: u64,
+    pub count: u64,
+    pub base: u64,
+}
+
+impl Cut {
+    // A game whose major prizes are paid in full.
+    pub fn none() -> Cut
+        ensures { λ r. ⌜ r ≡ uncut ⌝ }
+    {
+        Cut {
+            cut: false,
+            below: 0,
+            count: 0,
+            base: 0,
+        }
+    }
+
+    // The state before the first round, where the major prizes make `base` cents.
+    pub fn first(base: u64) -> Cut
+        ensures { λ r. ⌜ r ≡ firstCut base ⌝ }
+    {
+        Cut {
+            cut: true,
+            below: 0,
+            count: 0,
+            base,
+        }
+    }
+
+    // What the prizes outside the floored share, 0 where the floored take it all.
+    fn shareable(self) -> u64
+        ensures { λ r. ⌜ r ≡ Rattle.rules.specs.Passes.shareable self ⌝ }
+    {
+        let count = self.count;
+        if count < 250 {
+            5_000_000 - 20_000 * count
+        } else {
+            0
+        }
+    }
+
+    // What a prize pays under this state.
+    pub fn payout(self, prize: u64) -> u64
+        requires { ⌜ prize < 2 ^ 40 ⌝ }
+        ensures { λ r. ⌜ r ≡ payUnder self prize ⌝ }
+    {
+        let cut = self.cut;
+        let below = self.below;
+        let base = self.base;
+        if !cut {
+            return prize;
+        }
+        if prize < 20_000 {
+            return prize;
+        }
+        if prize < below {
+            return 20_000;
+        }
+        let part = self.shareable();
+        if base < prize {
+            return part;
+        }
+        prize * part / base
+    }
+
+    // The bound of the floored prizes after one more round.
+    pub fn next_below(self) -> u64
+        requires { ⌜ self .base < 2 ^ 63 ⌝ }
+        ensures { λ r. ⌜ r ≡ nextBelow self ⌝ }
+    {
+        let below = self.below;
+        let base = self.base;
+        let part = self.shareable();
+        if part == 0 {
+            return larger(below, base + 1);
+        }
+        larger(below, rounded_up(base, part))
+    }
+}
+
+// 20,000 × base / part, rounded up, with no product that could overflow.
+fn rounded_up(base: u64, part: u64) -> u64
+    requires { ⌜ (base < 2 ^ 63) × (20000 ≤ part) × (part ≤ 5000000) ⌝ }
+    ensures { λ r. ⌜ r ≡ 20000 * (base / part) + (20000 * (base % part) + (part - 1)) / part ⌝ }
+{
+    20_000 * (base / part) + (20_000 * (base % part) + (part - 1)) / part
+}
+
+fn larger(a: u64, b: u64) -> u64
+    ensures { λ r. ⌜ r ≡ max a b ⌝ }
+{
+    if a < b { b } else { a }
+}

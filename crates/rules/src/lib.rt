@@ -1,0 +1,11 @@
+// The rule book: everything of document 01 that needs no house.
+pub mod check;
+pub mod cut;
+pub mod jackpot;
+pub mod marks;
+pub mod price;
+pub mod prize;
+pub mod schedule;
+pub mod sums;
+pub mod terms;
+pub mod ways;
