@@ -1,20 +1,17 @@
 -- Laws of the operand checks: tests over lists step by step, and the first refusal that is met.
 use mathlib.Core.Path.{_≡_, refl, sym, ap, _∙_}
-use mathlib.Core.Bool.{Bool, true, false, cond, not, _&&_, false≢true}
-use mathlib.Core.List.{List, [], _∷_, map}
-use Prim.Native.Nat.{ℕ, zero, suc, _+_, _*_, _/_, _%_, _^_, _≤_, _<_}
-use native.Mathlib.Nat.{div-eq-of-lt, le-div-iff-mul-le, mul-le-mul-right, suc-mul, one-mul}
+use mathlib.Core.Bool.{Bool, true, false, not, _&&_, false≢true}
+use mathlib.Core.List.{List, _∷_}
+use Prim.Native.Nat.{ℕ, _+_, _*_, _/_, _≤_, _<_}
+use native.Mathlib.Nat.{div-eq-of-lt, le-div-iff-mul-le, one-mul}
 use native.Mathlib.Numerals.{add-one}
 use native.Mathlib.Omega.{arith}
-use lib.Dec.{leb, eqb, eqb·suc-suc, leb·zero}
-use lib.ListN.{length, getD, drop, length-map, length-append, drop-of-length-le}
+use lib.Dec.{leb, eqb}
+use lib.ListN.{length, getD, drop, drop-of-length-le}
 use lib.Seq.{drop-cons}
-use lib.Pow.{pow-pos, pow-mono}
-use lib.Count.{ones, onesIn}
-use borrow.Author.Tests.{eq-eqb, ne-eqb, le-leb, leb-true, leb-false, eqb-true}
-use Rattle.rules.specs.Lists.{below, keep, every}
-use Rattle.rules.specs.Kinds.{within}
-use Rattle.rules.specs.Ways.{nominated, ways, taken, waySizes}
+use borrow.Author.Tests.{eq-eqb, ne-eqb, leb-true, leb-false, eqb-true}
+use Rattle.rules.specs.Lists.{every}
+use Rattle.rules.specs.Ways.{ways}
 use Rattle.rules.specs.Checks.{Operands, firstMet, wayCount, chargeOf, marksFit, operandCode, quoteOf}
 use Rattle.rules.specs.declared.check.Quote.{Quote}
 

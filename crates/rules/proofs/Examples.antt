@@ -1,21 +1,19 @@
 -- The settled examples of document 01 that need no house, computed from the definitions, all of them in one theorem.
 use mathlib.Core.Path.{_≡_, refl}
-use mathlib.Core.Bool.{true, false}
 use mathlib.Core.List.{List, [], _∷_, _++_, map}
 use Prim.Native.Nat.{ℕ}
 use lib.ListN.{replicate}
 use lib.Count.{ones, onesIn}
 use Rattle.rules.specs.Lists.{sum, below, keep, every, any}
-use Rattle.rules.specs.Kinds.{kindOf, within}
+use Rattle.rules.specs.Kinds.{within}
 use Rattle.rules.specs.Ways.{markOf, sizeOf, hitsOf, byGroup, nominated, ways, taken, waySizes}
 use Rattle.rules.specs.Price.{paidGames, charge}
-use Rattle.rules.specs.Schedules.{standardRows, specialOneRows, specialTwoRows, cell}
+use Rattle.rules.specs.Schedules.{standardRows, cell}
 use Rattle.rules.specs.Prize.{dollars, prize}
 use Rattle.rules.specs.Cut.{floorCount, cutBase, joins, roundOf, rounds, flooredOf, cutPrize, payout}
 use Rattle.rules.specs.Jackpots.{guaranteeOfSix, guaranteeOfEight, freshJackpot, contribution, contributed, winningStakes, shareOf, oddCents, sharesFrom, jackpotWon, jackpotShares, seedOf, reseeded, repaid}
 use Rattle.rules.specs.Settle.{Entry, prizesBy, fullBy, jackpotBy, winnerOf, paidFor, majorsOf, prizesOf, settleJackpot, settle, Settled}
-use Rattle.rules.specs.declared.terms.Kind.{Kind}
-use Rattle.rules.specs.declared.terms.Kind.the-variants.{Standard, Jackpot, Special}
+use Rattle.rules.specs.declared.terms.Kind.the-variants.{Standard, Jackpot}
 use Rattle.rules.specs.declared.terms.Draw.{Draw}
 
 abbrev chargeOfGames : ℕ → ℕ → ℕ

@@ -1,6 +1,6 @@
 -- The bounds that some parts ask of their callers, so that no sum or product passes 64 bits. Sell's operand checks and the laws on reached
 -- houses give them.
-use Prim.Native.Nat.{ℕ, _+_, _*_, _-_, _≤_, _<_, _^_}
+use Prim.Native.Nat.{ℕ, _*_, _-_, _≤_, _<_, _^_}
 use mathlib.Core.Path.{_≡_}
 use mathlib.Core.List.{List}
 use lib.ListN.{drop}

@@ -1,12 +1,12 @@
 -- "Top to bottom; the first met is given": Sell's operand checks. "7 kind over 3; 8 games not 1 to 100; 9 groups not 1 to 8; 10 not 80
 -- marks, a mark over g, or an empty group; 11 types 0 or naming more than g groups; 12 a way's size against its kind; 13 Special One, one
 -- way; 14 stake; 15 charge".
-use Prim.Native.Nat.{ℕ, _^_, _≤_}
-use mathlib.Core.Bool.{Bool, true, false, cond, not, _&&_, _||_}
-use mathlib.Core.List.{List, [], _∷_, map}
+use Prim.Native.Nat.{ℕ, _^_}
+use mathlib.Core.Bool.{Bool, cond, not, _&&_, _||_}
+use mathlib.Core.List.{List, [], _∷_}
 use lib.Dec.{ltb, leb, eqb}
 use lib.ListN.{length, take}
-use Rattle.rules.specs.Lists.{any, every}
+use Rattle.rules.specs.Lists.{every}
 use Rattle.rules.specs.Kinds.{kindOf, isSpecialOne, sizesFit}
 use Rattle.rules.specs.Ways.{sizes, ways, waySizes}
 use Rattle.rules.specs.Price.{chargeLimit, paidGames, stakeFits, charge}

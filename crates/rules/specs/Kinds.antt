@@ -7,7 +7,6 @@ use lib.Dec.{leb, eqb}
 use Rattle.rules.specs.Lists.{every}
 use Rattle.rules.specs.declared.terms.Kind.{Kind}
 use Rattle.rules.specs.declared.terms.Kind.the-variants.{Standard, Jackpot, Special}
-use Rattle.rules.specs.declared.terms.Schedule.{Schedule}
 use Rattle.rules.specs.declared.terms.Schedule.the-variants.{One, Two}
 
 -- The kind of each number. A number over 3 is refused before it is read, and stands for the last kind.

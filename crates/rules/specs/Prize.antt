@@ -6,7 +6,6 @@ use lib.Dec.{leb, eqb}
 use Rattle.rules.specs.Schedules.{standardRows, specialOneRows, specialTwoRows, cell}
 use Rattle.rules.specs.declared.terms.Kind.{Kind}
 use Rattle.rules.specs.declared.terms.Kind.the-variants.{Standard, Jackpot, Special}
-use Rattle.rules.specs.declared.terms.Schedule.{Schedule}
 use Rattle.rules.specs.declared.terms.Schedule.the-variants.{One, Two}
 
 -- the most for a way, and for the major prizes of a game together
