@@ -12,4 +12,3 @@ pub mod CutPayouts
 pub mod SumLaws
 pub mod ShareLaws
 pub mod SettleLaws
-pub mod Examples

@@ -1,0 +1,356 @@
+-- Bounds of every reached house, so that its figures fit 64 bits. Each command adds to what ever came in (charges, seeds) or was lost
+-- (contributions, prizes) no more than a fixed amount for each ticket and each game; the balance then bounds every other figure by these.
+use Prim.Native.Nat.{ℕ, suc, _+_, _-_, _*_, _^_, _≤_, _<_, min}
+use native.Mathlib.Nat.{mul-le-mul-left, mul-one, suc-mul, zero-mul, pow-le-pow-right}
+use native.Mathlib.Omega.{arith}
+use mathlib.Core.Path.{_≡_, refl, ap, subst, subst⁻¹}
+use mathlib.Core.Bool.{Bool, true, false, cond, _||_, false≢true}
+use mathlib.Core.List.{List, [], _∷_, map, List·Memᴰ, List·Memᴰ·head, List·Memᴰ·tail}
+use lib.Dec.{ltb, eqb}
+use lib.ListN.{length, length-append, length-map}
+use borrow.Author.Tests.{ltb-false, eqb-true}
+use Rattle.rules.specs.Lists.{sum, keep, any, member}
+use Rattle.rules.specs.Ways.{ways}
+use Rattle.rules.specs.Price.{chargeLimit, paidGames, charge}
+use Rattle.rules.specs.Prize.{prizeLimit, majorFloor}
+use Rattle.rules.specs.Cut.{payout}
+use Rattle.rules.specs.Jackpots.{guaranteeOfSix, guaranteeOfEight}
+use Rattle.rules.specs.Settle.{Entry}
+use Rattle.rules.specs.Bounds.{Sound, Roomy}
+use Rattle.rules.specs.Checks.{Operands, operandCode, wayCount, chargeOf}
+use Rattle.rules.specs.declared.jackpot.Jackpot.{Jackpot}
+use Rattle.rules.specs.declared.terms.Draw.{Draw}
+use Rattle.rules.proofs.KeepLaws.{length-keep-le}
+use Rattle.rules.proofs.CutPayouts.{payout-le}
+use Rattle.rules.proofs.SettleLaws.{prizes-within, contributions-within, seeds-within, debts-balance, six-guarantee-kept, eight-guarantee-kept}
+use Rattle.house.specs.Tickets.{Ticket, termsOf, runsIn, isLive, paidStakes, entryOf, withDue}
+use Rattle.house.specs.Model.{Model, fresh, ticketLimit, gameLimit, liveLimit}
+use Rattle.house.specs.Commands.{Command, open′, sell, cancel, ball, claim, expire, transfer, act, opened, sold, cancelled, ballsWith, settles, runningIn, settlement, awarded, gameSettled, ballEntered, claimed, expired, withPrimary, transferred, changed, stillLive, soldTicket, codeOf}
+use Rattle.house.specs.Till.{Figures, tillOf}
+use Rattle.house.specs.Balance.{Balanced}
+use Rattle.house.proofs.Ledger.{All, Kept, Orderly, withLive, houseOf, ticketsAfter, ledgerAfter}
+use Rattle.house.proofs.Refusals.{operands-accepted, sell-accepted, ball-accepted}
+use Rattle.house.proofs.SomeWay.{ways-some}
+use Rattle.rules.proofs.WayLaws.{ways-lt}
+
+-- ---- lists
+
+module _ {A : Type 0} where
+  -- what holds of every element holds of those that are kept
+  pub all-kept : (P : A → Type 0) (f : A → Bool) (xs : List A) → All P xs → All P (keep f xs)
+  unfolding keep
+  all-kept P f [] h = tt
+  all-kept P f (x ∷ xs) h = go (f x) (all-kept P f xs (h .1))
+    where
+      go : (t : Bool) → All P (keep f xs) → All P (cond t (x ∷ keep f xs) (keep f xs))
+      go true rest = (h .0, rest)
+      go false rest = rest
+
+  -- and what follows of what they are mapped to, of each member
+  all-mapped :
+      {B : Type 0} (P : A → Type 0) (Q : B → Type 0) (f : A → B)
+      → ((x : A) → P x → Q (f x))
+      → (xs : List A)
+      → All P xs
+      → (y : B)
+      → List·Memᴰ y (map f xs)
+      → Q y
+  all-mapped P Q f h [] all y m = elim m [ ]
+  all-mapped P Q f h (x ∷ xs) all y (List·Memᴰ·head same) = subst⁻¹ Q same (h x (all .0))
+  all-mapped P Q f h (x ∷ xs) all y (List·Memᴰ·tail m) = all-mapped P Q f h xs (all .1) y m
+
+  sum-within :
+      (f : A → ℕ) (most : ℕ) (xs : List A)
+      → ((x : A) → List·Memᴰ x xs → f x ≤ most)
+      → sum (map f xs) ≤ length xs * most
+  unfolding sum
+  sum-within f most [] each = omega (arith, zero-mul most)
+  sum-within f most (x ∷ xs) each =
+      omega (
+        arith,
+        each x (List·Memᴰ·head refl),
+        sum-within f most xs (λ y m. each y (List·Memᴰ·tail m)),
+        suc-mul (length xs) most,
+      )
+
+  each-below-sum : (f : A → ℕ) (most : ℕ) (xs : List A) → sum (map f xs) < most → All (λ x. f x < most) xs
+  unfolding sum
+  each-below-sum f most [] h = tt
+  each-below-sum f most (x ∷ xs) h = (omega arith, each-below-sum f most xs (omega arith))
+
+  few-kept : {B : Type 0} (p : B → Bool) (f : A → B) (xs : List A) (most : ℕ) → length xs ≤ most → length (keep p (map f xs)) ≤ most
+  few-kept p f xs most h = omega (arith, length-keep-le p (map f xs), length-map xs f)
+
+pub length-awarded : (game : ℕ) (awards : List ℕ) (ts : List Ticket) → length (awarded game awards ts) ≡ length ts
+unfolding awarded
+length-awarded game awards [] = refl
+length-awarded game [] (t ∷ ts) = ap suc (length-awarded game [] ts)
+length-awarded game (a ∷ awards) (t ∷ ts) =
+    go (runsIn game t) (length-awarded game awards ts) (length-awarded game (a ∷ awards) ts)
+  where
+    go :
+        (runs : Bool)
+        → length (awarded game awards ts) ≡ length ts
+        → length (awarded game (a ∷ awards) ts) ≡ length ts
+        → length (cond runs (withDue t (t .due + a) ∷ awarded game awards ts) (t ∷ awarded game (a ∷ awards) ts)) ≡ suc (length ts)
+    go true paid idle = ap suc paid
+    go false paid idle = ap suc idle
+
+-- where the test for a member is met, the member's place
+member-found : (x : ℕ) (xs : List ℕ) → member x xs ≡ true → List·Memᴰ x xs
+unfolding member any
+member-found x [] found = absurd (false≢true found)
+member-found x (y ∷ ys) found = go (eqb x y) refl found (member-found x ys)
+  where
+    go :
+        (same : Bool)
+        → eqb x y ≡ same
+        → (same || any (eqb x) ys) ≡ true
+        → (any (eqb x) ys ≡ true → List·Memᴰ x ys)
+        → List·Memᴰ x (y ∷ ys)
+    go true same first rest = List·Memᴰ·head (eqb-true x y same)
+    go false other later rest = List·Memᴰ·tail (rest later)
+
+-- a game's major prizes pay no more than the limit each
+cut-within : (ps : List ℕ) (p : ℕ) → member p ps ≡ true → majorFloor ≤ p → payout ps p ≤ prizeLimit
+cut-within ps p found major = payout-le ps p (member-found p ps found)
+
+-- ---- one ticket
+
+paid-games-some : (games : ℕ) → 1 ≤ games → 1 ≤ paidGames games
+unfolding paidGames
+paid-games-some games some = go (ltb games 50) refl (ltb games 100)
+  where
+    go : (few : Bool) → ltb games 50 ≡ few → (most : Bool) → 1 ≤ cond few games (cond most (games - 1) (games - 2))
+    go true e most = some
+    go false e true = omega (arith, ltb-false games 50 e)
+    go false e false = omega (arith, ltb-false games 50 e)
+
+-- the stakes of one game are at most the charge
+pub one-game-within : (o : Operands) → operandCode o ≡ 0 → o .stake * wayCount o ≤ chargeLimit
+unfolding charge
+one-game-within o e =
+    let a = operands-accepted o e in
+    let stakes = o .stake * wayCount o in
+    let once : stakes * 1 ≤ stakes * paidGames (o .games) = mul-le-mul-left stakes (paid-games-some (o .games) (a .someGames)) in
+    omega (arith, once, a .charge, mul-one stakes)
+
+-- and so is the stake of one way
+pub stake-within : (o : Operands) → operandCode o ≡ 0 → o .stake ≤ chargeLimit
+stake-within o e =
+    let one : o .stake * 1 ≤ o .stake * wayCount o = mul-le-mul-left (o .stake) (ways-some o e) in
+    omega (arith, one, one-game-within o e, mul-one (o .stake))
+
+-- what the parts of the rule book ask of a ticket's terms
+pub terms-sound : (o : Operands) → operandCode o ≡ 0 → Sound (termsOf o)
+terms-sound o e = record { groups = operands-accepted o e .fewGroups; stake = stake-within o e }
+
+-- a ticket's paid stakes of one game, which are all of its stakes for it or nothing
+pub game-paid-within : (game g : ℕ) (t : Ticket) → Kept game t → paidStakes g (g + 1) t ≤ chargeLimit
+unfolding paidStakes charge
+game-paid-within game g t k =
+    let stakes = t .operands .stake * t .ways in
+    let once : stakes * (min (g + 1) (t .free) - min g (t .free)) ≤ stakes * 1 = mul-le-mul-left stakes (omega arith) in
+    let counted : stakes ≡ t .operands .stake * wayCount (t .operands) = ap (λ n. t .operands .stake * n) (k .counted) in
+    omega (arith, once, mul-one stakes, counted, one-game-within (t .operands) (k .checked))
+
+-- those of any of its games: what is held for it, or paid back
+pub span-paid-within : (game from upto : ℕ) (t : Ticket) → Kept game t → t .first ≤ from → paidStakes from upto t ≤ chargeLimit
+unfolding paidStakes charge
+span-paid-within game from upto t k begun =
+    let stakes = t .operands .stake * t .ways in
+    let games : min upto (t .free) - min from (t .free) ≤ paidGames (t .operands .games) = omega (arith, k .freeFrom) in
+    let most : stakes * (min upto (t .free) - min from (t .free)) ≤ stakes * paidGames (t .operands .games) = mul-le-mul-left stakes games in
+    let counted : stakes * paidGames (t .operands .games) ≡ chargeOf (t .operands) = ap (λ n. t .operands .stake * n * paidGames (t .operands .games)) (k .counted) in
+    omega (arith, most, counted, operands-accepted (t .operands) (k .checked) .charge)
+
+-- ---- the ledger
+
+-- what one game can lose: the prizes of 200 tickets of 256 ways at most, and contributions, which come from their paid stakes
+abbrev pub perGame : ℕ
+perGame = liveLimit * (256 * prizeLimit) + liveLimit * chargeLimit
+
+pub record Bounded (m : Model) : Type 0 where
+  pub live : length (stillLive (m .game) (m .live)) ≤ liveLimit
+  pub issued : m .issued ≤ ticketLimit
+  pub game : m .game ≤ gameLimit + 1
+  pub taken : m .counters .taken ≤ m .issued * chargeLimit
+  pub seeds : m .counters .seeds ≤ (guaranteeOfSix + guaranteeOfEight) * m .game
+  pub lost : m .counters .lost ≤ (m .game - 1) * perGame
+  pub debts : m .six .debt + m .eight .debt ≤ m .counters .seeds
+  pub sixGuarantee : guaranteeOfSix ≤ m .six .primary
+  pub eightGuarantee : guaranteeOfEight ≤ m .eight .primary
+
+pub bounded-fresh : Bounded fresh
+unfolding stillLive keep
+bounded-fresh = omega arith
+
+-- the house's tickets after a command
+live-few : (m : Model) (c : Command) → codeOf m c ≡ 0 → length (m .live) ≤ liveLimit → length (act m c .live) ≤ liveLimit
+unfolding act opened sold cancelled gameSettled ballEntered claimed expired transferred stillLive changed
+live-few m (open′ d) e few = few
+live-few m (sell o) e few = omega (arith, sell-accepted m o e .room, length-append (m .live) (soldTicket m o ∷ []))
+live-few m (cancel n) e few = few-kept _ _ (m .live) liveLimit few
+live-few m (ball b) e few = go (settles b m)
+  where
+    go : (last : Bool) → length (cond last (gameSettled b m) (ballEntered b m) .live) ≤ liveLimit
+    go true =
+        few-kept _ _ (awarded (m .game) (settlement b m .awards) (m .live)) liveLimit
+        (omega (arith, length-awarded (m .game) (settlement b m .awards) (m .live)))
+    go false = few
+live-few m (claim n) e few = few-kept _ _ (m .live) liveLimit few
+live-few m expire e few = few-kept _ _ (m .live) liveLimit few
+live-few m (transfer j cents) e few = few
+
+-- the two bounds of an entry of a game
+record EntryBounded (x : Entry) : Type 0 where
+  few : length (ways (x .terms .groups) (x .terms .types)) ≤ 256
+  paid : x .paid ≤ chargeLimit
+
+abbrev withJackpots : Model → Jackpot → Jackpot → Model
+withJackpots m six eight =
+    record { day = m .day; game = m .game; balls = m .balls; issued = m .issued; live = m .live; six = six; eight = eight; counters = m .counters }
+
+pub ways-within : (o : Operands) → operandCode o ≡ 0 → wayCount o ≤ 255
+ways-within o e =
+    let most : 2 ^ o .groups ≤ 2 ^ 8 = pow-le-pow-right (omega arith) (operands-accepted o e .fewGroups) in
+    omega (arith, ways-lt (o .groups) (o .types), most)
+
+entry-bounded : (game : ℕ) (t : Ticket) → Kept game t → EntryBounded (entryOf game t)
+entry-bounded game t k =
+    record { few = omega (arith, ways-within (t .operands) (k .checked)); paid = game-paid-within game game t k }
+
+module _ (m : Model) (ok : Orderly m) (few : length (stillLive (m .game) (m .live)) ≤ liveLimit) (b : ℕ) where
+  entries : List Entry
+  entries = map (entryOf (m .game)) (runningIn (houseOf m))
+
+  entries-few : length entries ≤ liveLimit
+  unfolding entries
+  entries-few =
+      omega (
+        arith,
+        length-map (runningIn (houseOf m)) (entryOf (m .game)),
+        length-keep-le (runsIn (m .game)) (stillLive (m .game) (m .live)),
+      )
+
+  each-bounded : (x : Entry) → List·Memᴰ x entries → EntryBounded x
+  unfolding entries stillLive
+  each-bounded =
+      all-mapped (Kept (m .game)) EntryBounded (entryOf (m .game)) (entry-bounded (m .game)) (runningIn (houseOf m))
+      (all-kept (Kept (m .game)) (runsIn (m .game)) (stillLive (m .game) (m .live))
+      (all-kept (Kept (m .game)) (isLive (m .game)) (m .live) (ok .tickets)))
+
+  settled-within : settlement b (houseOf m) .prizes + settlement b (houseOf m) .contributions ≤ perGame
+  unfolding settlement entries
+  settled-within =
+      let draw : Draw = record { balls = ballsWith b (houseOf m) } in
+      omega (
+        arith,
+        entries-few,
+        prizes-within cut-within draw (m .six) (m .eight) entries 256 (λ x among. each-bounded x among .few),
+        contributions-within draw (m .six) (m .eight) entries,
+        sum-within (λ x. x .paid) chargeLimit entries (λ x among. each-bounded x among .paid),
+      )
+
+game-bounded :
+    (m : Model)
+    → Orderly m
+    → Bounded m
+    → (b : ℕ)
+    → m .game ≤ gameLimit
+    → (ts : List Ticket)
+    → length (stillLive (m .game + 1) ts) ≤ liveLimit
+    → Bounded (withLive (gameSettled b (houseOf m)) ts)
+unfolding gameSettled settlement
+game-bounded m ok bounds b notLast ts few =
+    let draw : Draw = record { balls = ballsWith b (houseOf m) } in
+    let es : List Entry = map (entryOf (m .game)) (runningIn (houseOf m)) in
+    let lost = settled-within m ok (bounds .live) b in
+    let seeds = seeds-within draw (m .six) (m .eight) es in
+    let debts = debts-balance draw (m .six) (m .eight) es in
+    let six = six-guarantee-kept draw (m .six) (m .eight) es (bounds .sixGuarantee) in
+    let eight = eight-guarantee-kept draw (m .six) (m .eight) es (bounds .eightGuarantee) in
+    omega arith
+
+figures-after :
+    (m : Model) (c : Command)
+    → Orderly m
+    → Bounded m
+    → codeOf (houseOf m) c ≡ 0
+    → length (stillLive (act (houseOf m) c .game) (ticketsAfter m c)) ≤ liveLimit
+    → Bounded (ledgerAfter m c)
+unfolding act opened sold cancelled gameSettled ballEntered claimed expired transferred
+figures-after m (open′ d) ok b e few = omega arith
+figures-after m (sell o) ok b e few =
+    let sale = sell-accepted (houseOf m) o e in
+    let operands = operands-accepted o (sale .checked) in
+    omega (arith, sale .numbered, operands .charge)
+figures-after m (cancel n) ok b e few = omega arith
+figures-after m (ball n) ok b e few = go (settles n (houseOf m)) (ticketsAfter m (ball n)) few
+  where
+    go :
+        (last : Bool) (ts : List Ticket)
+        → length (stillLive (cond last (gameSettled n (houseOf m)) (ballEntered n (houseOf m)) .game) ts) ≤ liveLimit
+        → Bounded (withLive (cond last (gameSettled n (houseOf m)) (ballEntered n (houseOf m))) ts)
+    go true ts few = game-bounded m ok b n (ball-accepted (houseOf m) n e .game) ts few
+    go false ts few = omega arith
+figures-after m (claim n) ok b e few = omega arith
+figures-after m expire ok b e few = omega arith
+figures-after m (transfer j cents) ok b e few = go (eqb j 6)
+  where
+    go :
+        (six : Bool)
+        → Bounded (withJackpots (transferred j cents m)
+        (cond six (withPrimary (m .six) (m .six .primary + cents)) (m .six))
+        (cond six (m .eight) (withPrimary (m .eight) (m .eight .primary + cents))))
+    go true = omega arith
+    go false = omega arith
+
+pub bounded-after :
+    (m : Model) (c : Command)
+    → Orderly m
+    → Bounded m
+    → codeOf (houseOf m) c ≡ 0
+    → act (houseOf m) c .live ≡ stillLive (act (houseOf m) c .game) (ticketsAfter m c)
+    → Bounded (ledgerAfter m c)
+bounded-after m c ok b e live =
+    figures-after m c ok b e (subst (λ ts. length ts ≤ liveLimit) live (live-few (houseOf m) c e (b .live)))
+
+-- ---- 64 bits
+
+pub record FiguresFit (f : Figures) : Type 0 where
+  pub taken : f .taken < 2 ^ 62
+  pub seeds : f .seeds < 2 ^ 62
+  pub paid : f .paid < 2 ^ 62
+  pub refunded : f .refunded < 2 ^ 62
+  pub owed : f .owed < 2 ^ 62
+  pub held : f .held < 2 ^ 62
+  pub unclaimed : f .unclaimed < 2 ^ 62
+  pub pooled : f .pooled < 2 ^ 62
+  pub gained : f .gained < 2 ^ 62
+  pub lost : f .lost < 2 ^ 62
+
+pub record JackpotFits (j : Jackpot) : Type 0 where
+  pub primary : j .primary < 2 ^ 62
+  pub secondary : j .secondary < 2 ^ 62
+  pub reimbursement : j .reimbursement < 2 ^ 62
+  pub debt : j .debt < 2 ^ 62
+
+pub record Fit (m : Model) : Type 0 where
+  pub figures : FiguresFit (tillOf m)
+  pub six : JackpotFits (m .six)
+  pub eight : JackpotFits (m .eight)
+
+-- what came in and what was lost are within their bounds, and by the balance they are all that the other figures share
+pub figures-fit : (m : Model) → Bounded m → Balanced (tillOf m) → Fit m
+unfolding tillOf
+figures-fit m b balance = omega arith
+
+-- so that a jackpot has the room that the parts of the rule book ask for
+pub jackpot-roomy : (j : Jackpot) → JackpotFits j → Roomy j
+jackpot-roomy j fits = omega arith
+
+-- and what each ticket is due is a part of what is owed
+pub dues-fit : (m : Model) → Fit m → All (λ t. t .due < 2 ^ 62) (m .live)
+unfolding tillOf
+dues-fit m fits = each-below-sum (λ t. t .due) (2 ^ 62) (m .live) (fits .figures .owed)

@@ -1,0 +1,53 @@
+-- The settled examples of document 01 (its rows marked ●), all of them in one theorem, computed from the definitions: charges, prizes won and
+-- jackpots by real commands on a fresh house, cuts by the rule.
+use mathlib.Core.Path.{_≡_, refl}
+use mathlib.Core.List.{List, [], _∷_, _++_, map, zipWith}
+use Prim.Native.Nat.{ℕ, _+_, _-_}
+use lib.ListN.{replicate}
+use lib.Count.{ones, onesIn}
+use Rattle.rules.specs.Lists.{sum, below, keep, every, any, member}
+use Rattle.rules.specs.Kinds.{kindOf, within}
+use Rattle.rules.specs.Ways.{markOf, sizeOf, hitsOf, byGroup, nominated, ways, taken, waySizes}
+use Rattle.rules.specs.Price.{paidGames, minimumStake, stakeFits, charge}
+use Rattle.rules.specs.Checks.{firstMet, marksFit, operandRows}
+use Rattle.rules.specs.Schedules.{standardRows, cell}
+use Rattle.rules.specs.Prize.{dollars, prize}
+use Rattle.rules.specs.Cut.{floorCount, cutBase, joins, roundOf, rounds, flooredOf, cutPrize, payout}
+use Rattle.rules.specs.Jackpots.{contribution, contributed, winningStakes, shareOf, oddCents, sharesFrom, jackpotWon, jackpotShares, seedOf, reseeded, repaid}
+use Rattle.rules.specs.Settle.{prizesBy, fullBy, jackpotBy, winnerOf, paidFor, majorsOf, prizesOf, settleJackpot, settle}
+use Rattle.house.specs.Tickets.{runsIn, gamesLeft, paidStakes}
+use Rattle.house.specs.Commands.{changed, Command, open′, sell, ball, claim, ticketAt, stillLive, rowsOf, codeOf, opened, sold, settlement, awarded, gameSettled, ballEntered, claimed, act, reply, step}
+use Rattle.house.specs.Balance.{run, answerAfter, next, runFrom}
+
+-- a ticket of one way on the first numbers
+abbrev first : ℕ → ℕ → ℕ → ℕ → Command
+first kind size games stake =
+    sell (record { kind = kind; games = games; stake = stake; groups = 1; types = 1; marks = replicate size 1 ++ replicate (80 - size) 0 })
+
+-- the first game of day 1 with some tickets, and the numbers from the given one on drawn
+abbrev game : ℕ → List Command → List Command
+game from tickets = open′ 1 ∷ tickets ++ map (λ n. ball (n + from)) (below 20)
+
+abbrev chargeOfGames : ℕ → ℕ → ℕ
+chargeOfGames stake games = answerAfter (open′ 1 ∷ []) (first 0 1 games stake) .cents
+
+abbrev cut : List ℕ → List ℕ
+cut majors = map (payout majors) majors
+
+abbrev paysClaim : ℕ → List Command → ℕ
+paysClaim n commands = answerAfter commands (claim n) .cents
+
+pub settled-examples :
+    (chargeOfGames 200 5 ≡ 1000)
+    × (map (chargeOfGames 100) (49 ∷ 50 ∷ 99 ∷ 100 ∷ []) ≡ 4900 ∷ 4900 ∷ 9800 ∷ 9800 ∷ [])
+    × (paysClaim 1 (game 2 (first 0 8 1 200 ∷ [])) ≡ 111000)
+    × (cut (5000000 ∷ 5000000 ∷ 30000 ∷ []) ≡ 2490000 ∷ 2490000 ∷ 20000 ∷ [])
+    × (cut (5000000 ∷ 5000000 ∷ 5000000 ∷ []) ≡ 1666666 ∷ 1666666 ∷ 1666666 ∷ [])
+    × (cut (2500000 ∷ 2480000 ∷ 20000 ∷ []) ≡ 2500000 ∷ 2480000 ∷ 20000 ∷ [])
+    × (paysClaim 1 (game 1 (first 1 6 1 100 ∷ [])) ≡ 100015)
+    × (run (game 1 (first 1 6 1 100 ∷ [])) .house .counters .seeds ≡ 1350000 + 99995)
+    × (run (game 1 (first 1 6 1 100 ∷ [])) .house .six .debt ≡ 199990)
+    × (paysClaim 1 (game 1 (first 1 6 1 100 ∷ first 1 6 1 200 ∷ [])) ≡ 33349)
+    × (paysClaim 2 (game 1 (first 1 6 1 100 ∷ first 1 6 1 200 ∷ [])) ≡ 66696)
+unfolding sum below keep every any member kindOf within markOf sizeOf hitsOf byGroup nominated ways taken waySizes paidGames minimumStake stakeFits charge firstMet marksFit operandRows standardRows cell dollars prize floorCount cutBase joins roundOf rounds flooredOf cutPrize payout contribution contributed winningStakes shareOf oddCents sharesFrom jackpotWon jackpotShares seedOf reseeded repaid prizesBy fullBy jackpotBy winnerOf paidFor majorsOf prizesOf settleJackpot settle runsIn gamesLeft paidStakes ticketAt stillLive rowsOf codeOf opened sold settlement awarded gameSettled ballEntered claimed act reply step next runFrom changed ones onesIn zipWith
+settled-examples = (refl, refl, refl, refl, refl, refl, refl, refl, refl, refl, refl)

@@ -1,0 +1,76 @@
+-- The ledger: a model in which no ticket is ever dropped. The house is the ledger's live tickets, and the count sheet is what the ledger's
+-- tickets read as lines; so each command is followed once from the ledger to the house and once from the ledger to the sheet.
+use Prim.Native.Nat.{ℕ, _+_, _≤_, max}
+use mathlib.Core.Path.{_≡_}
+use mathlib.Core.Bool.{cond}
+use mathlib.Core.List.{List, [], _∷_, _++_, map}
+use lib.ListN.{length}
+use Rattle.rules.specs.Checks.{operandCode, wayCount}
+use Rattle.rules.specs.Price.{paidGames}
+use Rattle.rules.specs.Ways.{sizes}
+use Rattle.rules.specs.Settle.{jackpotBy}
+use Rattle.house.specs.Tickets.{Ticket, termsOf, gamesLeft, withDue}
+use Rattle.house.specs.Model.{Model, gameLimit}
+use Rattle.house.specs.Commands.{Command, open′, sell, cancel, ball, claim, expire, transfer, act, stillLive, changed, cancelledTicket, soldTicket, settles, settlement, awarded, finishedOn, isExpired}
+use Rattle.house.specs.Till.{tillOf}
+use Rattle.house.specs.Sheet.{Sheet, Line, gamesFrom}
+
+abbrev pub withLive : Model → List Ticket → Model
+withLive m ts =
+    record { day = m .day; game = m .game; balls = m .balls; issued = m .issued; live = ts; six = m .six; eight = m .eight; counters = m .counters }
+
+-- the house of a ledger
+abbrev pub houseOf : Model → Model
+houseOf m = withLive m (stillLive (m .game) (m .live))
+
+-- the ledger's tickets after an accepted command: as the house's, and none is dropped
+abbrev pub ticketsAfter : Model → Command → List Ticket
+ticketsAfter m (open′ d) = m .live
+ticketsAfter m (sell o) = m .live ++ (soldTicket m o ∷ [])
+ticketsAfter m (cancel n) = changed n (cancelledTicket m) (m .live)
+ticketsAfter m (ball b) =
+    cond (settles b m)
+    (map (finishedOn (m .day) (m .game + 1)) (awarded (m .game) (settlement b (houseOf m) .awards) (m .live)))
+    (m .live)
+ticketsAfter m (claim n) = changed n (λ t. withDue t 0) (m .live)
+ticketsAfter m expire = map (λ t. cond (isExpired m t) (withDue t 0) t) (m .live)
+ticketsAfter m (transfer j cents) = m .live
+
+-- the ledger after an accepted command
+abbrev pub ledgerAfter : Model → Command → Model
+ledgerAfter m c = withLive (act (houseOf m) c) (ticketsAfter m c)
+
+-- a ticket of the ledger as a line of the sheet
+abbrev pub lineOf : ℕ → Ticket → Line
+lineOf game t =
+    record { number = t .number; operands = t .operands; first = t .first; left = gamesFrom (max (t .first) game) (gamesLeft game t); due = t .due; finishingDay = t .finishedDay }
+
+-- the sheet of a ledger; its figures are the till over all tickets, of which those that are closed add nothing
+abbrev pub sheetFor : Model → Sheet
+sheetFor m =
+    record { today = m .day; game = m .game; balls = m .balls; six = m .six; eight = m .eight; lines = map (lineOf (m .game)) (m .live); figures = tillOf m }
+
+-- P of every element
+abbrev pub All : {A : Type 0} → (A → Type 0) → List A → Type 0
+All P [] = Unit {0}
+All P (x ∷ xs) = P x × All P xs
+
+-- what holds of every ticket where the given game is the current one
+pub record Kept (game : ℕ) (t : Ticket) : Type 0 where
+  pub checked : operandCode (t .operands) ≡ 0
+  pub counted : t .ways ≡ wayCount (t .operands)
+  pub playing : t .jackpot ≡ jackpotBy (termsOf (t .operands)) (sizes (t .operands .marks))
+  pub freeFrom : t .free ≡ t .first + paidGames (t .operands .games)
+  pub begins : 1 ≤ t .first
+  pub ends : t .stop ≤ gameLimit + 1
+  -- the finishing day is set just where no game is left
+  pub running : (gamesLeft game t ≡ 0 → ⊥) → t .finishedDay ≡ 0
+  pub finished : gamesLeft game t ≡ 0 → t .finishedDay ≡ 0 → ⊥
+
+-- what holds of every ledger
+pub record Orderly (m : Model) : Type 0 where
+  pub issued : m .issued ≡ length (m .live)
+  pub numbers : map (λ t. t .number) (m .live) ≡ gamesFrom 1 (length (m .live))
+  pub tickets : All (Kept (m .game)) (m .live)
+  pub balls : length (m .balls) ≤ 19
+  pub games : 1 ≤ m .game

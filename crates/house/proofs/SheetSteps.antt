@@ -1,0 +1,384 @@
+-- The sheet after each accepted command is the sheet of the ledger after it, and the till stays in balance: command by command, from the
+-- lines and from what each command moves.
+use Prim.Native.Nat.{ℕ, _+_, _-_, _≤_}
+use mathlib.Core.Path.{_≡_, refl, sym, ap, ap₂, _∙_}
+use mathlib.Core.Bool.{Bool, true, false, cond, not}
+use mathlib.Core.List.{List, [], _∷_, _++_, map, map-append}
+use mathlib.Core.Logic.{_⊎_, inl, inr}
+use native.Mathlib.Nat.{add-zero}
+use native.Mathlib.Numerals.{add-one}
+use native.Mathlib.Omega.{arith}
+use lib.Dec.{eqb, eqb·suc-suc}
+use lib.ListN.{length, length-append, length-map}
+use borrow.Author.Tests.{eq-eqb, ne-eqb}
+use Rattle.rules.specs.Lists.{sum, keep}
+use Rattle.rules.specs.Checks.{Operands, chargeOf}
+use Rattle.rules.specs.Jackpots.{pooled}
+use Rattle.rules.specs.Settle.{Settled}
+use Rattle.house.specs.Tickets.{Ticket, runsIn, paidStakes, heldFor, entryOf, withDue}
+use Rattle.house.specs.Model.{Model}
+use Rattle.house.specs.Commands.{Command, open′, sell, cancel, ball, claim, expire, transfer, act, codeOf, hasTicket, opened, sold, soldTicket, cancelled, cancelledTicket, changed, ballsWith, settles, settlement, runningIn, stakesDrawn, awarded, finishedOn, gameSettled, ballEntered, claimed, expired, isExpired, refundOf, ticketAt, expiring, transferred, withPrimary}
+use Rattle.house.specs.Till.{Figures, tillOf}
+use Rattle.house.specs.Sheet.{Sheet, Line, newLine, totalAt, takenOff, lateDues, settleLines, moved, sheetOpen, sheetSell, sheetCancel, sheetSettle, sheetBall, twentieth, sheetClaim, sheetExpire, sheetTransfer, primaryWith}
+use Rattle.house.specs.Balance.{Balanced}
+use Rattle.house.proofs.Ledger.{Orderly, withLive, houseOf, lineOf, sheetFor, ledgerAfter}
+use Rattle.house.proofs.MoneyLaws.{sum-snoc, sum-unmoved}
+use Rattle.house.proofs.Refusals.{cancel-accepted, claim-accepted, transfer-accepted}
+use Rattle.house.proofs.SheetLines.{sold-line, cancelled-lines, claimed-lines, expired-lines, settled-lines}
+use Rattle.house.proofs.SheetFigures.{dues, stakesHeld, sold-held, cancel-total, cancel-held, cancel-owed, claim-total, claim-owed, claim-held, late-dues, expire-owed, expire-held, finished-due, finished-held, running-all, awarded-owed, awarded-unmoved, drawn-held, settlements-alike, stakes-alike}
+use Rattle.rules.proofs.SettleLaws.{awards-count, awards-sum, pools-balance}
+
+figures-same : {f g : Figures} →
+    f .taken ≡ g .taken → f .seeds ≡ g .seeds → f .paid ≡ g .paid → f .refunded ≡ g .refunded → f .owed ≡ g .owed →
+    f .held ≡ g .held → f .unclaimed ≡ g .unclaimed → f .pooled ≡ g .pooled → f .gained ≡ g .gained → f .lost ≡ g .lost →
+    f ≡ g
+figures-same taken seeds paid refunded owed held unclaimed pool gained lost =
+    λ i.
+    record {
+      taken = taken i;
+      seeds = seeds i;
+      paid = paid i;
+      refunded = refunded i;
+      owed = owed i;
+      held = held i;
+      unclaimed = unclaimed i;
+      pooled = pool i;
+      gained = gained i;
+      lost = lost i;
+    }
+
+-- a sheet whose lines and figures follow
+sheet-same : {s r : Sheet} →
+    s .today ≡ r .today → s .game ≡ r .game → s .balls ≡ r .balls → s .six ≡ r .six → s .eight ≡ r .eight → s .lines ≡ r .lines →
+    s .figures ≡ r .figures →
+    s ≡ r
+sheet-same today game balls six eight lines figures =
+    λ i.
+    record {
+      today = today i;
+      game = game i;
+      balls = balls i;
+      six = six i;
+      eight = eight i;
+      lines = lines i;
+      figures = figures i;
+    }
+
+-- ---- Open
+
+opened-sheet : (m : Model) (d : ℕ) → moved (open′ d) (sheetFor m) ≡ sheetFor (ledgerAfter m (open′ d))
+unfolding moved sheetOpen act opened tillOf
+opened-sheet m d = refl
+
+opened-balance : (m : Model) (d : ℕ) → Balanced (tillOf m) → Balanced (tillOf (ledgerAfter m (open′ d)))
+unfolding act opened tillOf
+opened-balance m d balance = balance
+
+-- ---- Sell
+
+module _ (m : Model) (o : Operands) where
+  sold-owed : dues (m .live ++ (soldTicket m o ∷ [])) ≡ dues (m .live)
+  sold-owed = sum-snoc (λ t. t .due) (m .live) (soldTicket m o) ∙ add-zero (dues (m .live))
+
+  sold-kept : stakesHeld (m .game) (m .live ++ (soldTicket m o ∷ [])) ≡ stakesHeld (m .game) (m .live) + chargeOf o
+  sold-kept =
+      sum-snoc (heldFor (m .game)) (m .live) (soldTicket m o)
+      ∙ ap (λ n. stakesHeld (m .game) (m .live) + n) (sold-held m o)
+
+  sold-sheet : Orderly m → moved (sell o) (sheetFor m) ≡ sheetFor (ledgerAfter m (sell o))
+  unfolding moved sheetSell act sold tillOf
+  sold-sheet orderly =
+      sheet-same refl refl refl refl refl lines
+      (figures-same refl refl refl refl (sym sold-owed) (sym sold-kept) refl refl refl refl)
+    where
+      lines : map (lineOf (m .game)) (m .live) ++ (newLine o (sheetFor m) ∷ []) ≡ map (lineOf (m .game)) (m .live ++ (soldTicket m o ∷ []))
+      lines =
+          ap (λ l. map (lineOf (m .game)) (m .live) ++ (l ∷ [])) (sold-line m o (orderly .issued))
+          ∙ sym (map-append (lineOf (m .game)) (m .live) (soldTicket m o ∷ []))
+
+  sold-balance : Balanced (tillOf m) → Balanced (tillOf (ledgerAfter m (sell o)))
+  unfolding act sold tillOf
+  sold-balance balance = omega (arith, balance, sold-owed, sold-kept)
+
+-- ---- Cancel and Claim
+
+-- what is taken off a sum that it is a part of
+taken-off-sum : (whole rest part off : ℕ) → whole ≡ rest + part → off ≡ part → whole - off ≡ rest
+taken-off-sum whole rest part off parts same = omega arith
+
+module _ (m : Model) (n : ℕ) (orderly : Orderly m) (here : hasTicket n (houseOf m .live) ≡ true) where
+  cancelled-sheet : moved (cancel n) (sheetFor m) ≡ sheetFor (ledgerAfter m (cancel n))
+  unfolding moved sheetCancel act cancelled tillOf
+  cancelled-sheet =
+      sheet-same refl refl refl refl refl (cancelled-lines m n (orderly .tickets))
+      (figures-same
+      refl
+      refl
+      refl
+      (ap (λ k. m .counters .refunded + k) (cancel-total m n orderly here))
+      (sym (cancel-owed m n))
+      (taken-off-sum
+      (stakesHeld (m .game) (m .live))
+      (stakesHeld (m .game) (changed n (cancelledTicket m) (m .live)))
+      (refundOf n (houseOf m))
+      (totalAt n (takenOff (sheetFor m)) (map (lineOf (m .game)) (m .live)))
+      (cancel-held m n orderly here)
+      (cancel-total m n orderly here))
+      refl
+      refl
+      refl
+      refl)
+
+  cancelled-balance : Balanced (tillOf m) → Balanced (tillOf (ledgerAfter m (cancel n)))
+  unfolding act cancelled tillOf
+  cancelled-balance balance = omega (arith, balance, cancel-owed m n, cancel-held m n orderly here)
+
+  claimed-sheet : moved (claim n) (sheetFor m) ≡ sheetFor (ledgerAfter m (claim n))
+  unfolding moved sheetClaim act claimed tillOf
+  claimed-sheet =
+      sheet-same refl refl refl refl refl (claimed-lines (m .game) n (m .live))
+      (figures-same
+      refl
+      refl
+      (ap (λ k. m .counters .paid + k) (claim-total m n orderly here))
+      refl
+      (taken-off-sum
+      (dues (m .live))
+      (dues (changed n (λ t. withDue t 0) (m .live)))
+      (ticketAt n (houseOf m .live) .due)
+      (totalAt n (λ l. l .due) (map (lineOf (m .game)) (m .live)))
+      (claim-owed m n orderly here)
+      (claim-total m n orderly here))
+      (sym (claim-held m n))
+      refl
+      refl
+      refl
+      refl)
+
+  claimed-balance : Balanced (tillOf m) → Balanced (tillOf (ledgerAfter m (claim n)))
+  unfolding act claimed tillOf
+  claimed-balance balance = omega (arith, balance, claim-owed m n orderly here, claim-held m n)
+
+-- ---- Expire
+
+module _ (m : Model) where
+  expired-sheet : moved expire (sheetFor m) ≡ sheetFor (ledgerAfter m expire)
+  unfolding moved sheetExpire act expired tillOf
+  expired-sheet =
+      sheet-same refl refl refl refl refl (expired-lines m)
+      (figures-same
+      refl
+      refl
+      refl
+      refl
+      (taken-off-sum
+      (dues (m .live))
+      (dues (map (λ t. cond (isExpired m t) (withDue t 0) t) (m .live)))
+      (dues (expiring (houseOf m)))
+      (sum (lateDues (sheetFor m)))
+      (expire-owed m)
+      (ap sum (late-dues m)))
+      (sym (expire-held m))
+      (ap (λ ds. m .counters .unclaimed + sum ds) (late-dues m))
+      refl
+      refl
+      refl)
+
+  expired-balance : Balanced (tillOf m) → Balanced (tillOf (ledgerAfter m expire))
+  unfolding act expired tillOf
+  expired-balance balance = omega (arith, balance, expire-owed m, expire-held m)
+
+-- ---- Transfer
+
+-- a jackpot that is not 6 is 8
+other-jackpot : (j : ℕ) → (j ≡ 6) ⊎ (j ≡ 8) → eqb j 8 ≡ not (eqb j 6)
+other-jackpot j (inl six) =
+    ne-eqb j 8 (λ eight. omega arith) ∙ ap not (sym (eq-eqb j 6 six))
+other-jackpot j (inr eight) = eq-eqb j 8 eight ∙ ap not (sym (ne-eqb j 6 (λ six. omega arith)))
+
+module _ (m : Model) (j cents : ℕ) where
+  transferred-pooled :
+      pooled (cond (eqb j 6) (withPrimary (m .six) (m .six .primary + cents)) (m .six))
+      + pooled (cond (eqb j 6) (m .eight) (withPrimary (m .eight) (m .eight .primary + cents)))
+      ≡ pooled (m .six) + pooled (m .eight) + cents
+  transferred-pooled = go (eqb j 6)
+    where
+      go : (six : Bool) →
+          pooled (cond six (withPrimary (m .six) (m .six .primary + cents)) (m .six))
+          + pooled (cond six (m .eight) (withPrimary (m .eight) (m .eight .primary + cents)))
+          ≡ pooled (m .six) + pooled (m .eight) + cents
+      go true = omega arith
+      go false = omega arith
+
+  transferred-sheet : (j ≡ 6) ⊎ (j ≡ 8) → moved (transfer j cents) (sheetFor m) ≡ sheetFor (ledgerAfter m (transfer j cents))
+  unfolding moved sheetTransfer act transferred tillOf
+  transferred-sheet named =
+      sheet-same refl refl refl refl
+      (ap (λ b. cond b (primaryWith cents (m .eight)) (m .eight)) (other-jackpot j named) ∙ go (eqb j 6))
+      refl
+      (figures-same refl refl refl refl refl refl refl (sym transferred-pooled) refl refl)
+    where
+      go : (six : Bool) →
+          cond (not six) (primaryWith cents (m .eight)) (m .eight) ≡ cond six (m .eight) (withPrimary (m .eight) (m .eight .primary + cents))
+      go true = refl
+      go false = refl
+
+  transferred-balance : cents ≤ m .counters .unclaimed → Balanced (tillOf m) → Balanced (tillOf (ledgerAfter m (transfer j cents)))
+  unfolding act transferred tillOf
+  transferred-balance covered balance = omega (arith, balance, transferred-pooled)
+
+-- ---- Ball
+
+-- the twentieth ball on the sheet is the one that settles
+pub twentieth-alike : (m : Model) (b : ℕ) → twentieth (sheetFor m) ≡ settles b m
+twentieth-alike m b =
+    sym (eqb·suc-suc (length (m .balls)) 19)
+    ∙ ap (λ n. eqb n 20) (sym (length-append (m .balls) (b ∷ []) ∙ add-one (length (m .balls))))
+
+-- the sheet after a settled game, from the settlement and the paid stakes
+settledBy : Sheet → List Line → Settled → ℕ → Sheet
+settledBy s lines r stakes =
+    let f = s .figures in
+    record {
+      today = s .today;
+      game = s .game + 1;
+      balls = [];
+      six = r .six;
+      eight = r .eight;
+      lines = lines;
+      figures =
+          record {
+            taken = f .taken;
+            seeds = f .seeds + r .seeds;
+            paid = f .paid;
+            refunded = f .refunded;
+            owed = f .owed + (r .prizes + r .shares);
+            held = f .held - stakes;
+            unclaimed = f .unclaimed;
+            pooled = f .pooled + (r .contributions + r .seeds) - (r .shares + r .repaid);
+            gained = f .gained + (stakes + r .repaid);
+            lost = f .lost + (r .contributions + r .prizes);
+          };
+    }
+
+module _ (m : Model) (b : ℕ) where
+  abbrev result : Settled
+  result = settlement b (houseOf m)
+
+  abbrev ticketsThen : List Ticket
+  ticketsThen = map (finishedOn (m .day) (m .game + 1)) (awarded (m .game) (result .awards) (m .live))
+
+  -- an award for each ticket that runs
+  awards-given : length (result .awards) ≡ length (keep (runsIn (m .game)) (m .live))
+  unfolding settlement
+  awards-given =
+      awards-count (record { balls = ballsWith b m }) (m .six) (m .eight) (map (entryOf (m .game)) (runningIn (houseOf m)))
+      ∙ length-map (runningIn (houseOf m)) (entryOf (m .game))
+      ∙ ap length (running-all (m .game) (m .live))
+
+  settled-owed : dues ticketsThen ≡ dues (m .live) + (result .prizes + result .shares)
+  unfolding settlement
+  settled-owed =
+      sum-unmoved
+      (λ t. t .due)
+      (finishedOn (m .day) (m .game + 1))
+      (finished-due (m .day) (m .game + 1))
+      (awarded (m .game) (result .awards) (m .live))
+      ∙ awarded-owed (m .game) (result .awards) (m .live) awards-given
+      ∙ ap (λ n. dues (m .live) + n)
+      (awards-sum (record { balls = ballsWith b m }) (m .six) (m .eight) (map (entryOf (m .game)) (runningIn (houseOf m))))
+
+  settled-held : stakesHeld (m .game) (m .live) ≡ stakesHeld (m .game + 1) ticketsThen + stakesDrawn (houseOf m)
+  unfolding paidStakes
+  settled-held =
+      drawn-held (m .game) (m .live)
+      ∙ ap₂ _+_
+      (sym
+      (sum-unmoved
+      (heldFor (m .game + 1))
+      (finishedOn (m .day) (m .game + 1))
+      (finished-held (m .day) (m .game + 1) (m .game + 1))
+      (awarded (m .game) (result .awards) (m .live))
+      ∙ ap sum (awarded-unmoved (m .game) (heldFor (m .game + 1)) (λ t cents. refl) (result .awards) (m .live))))
+      (ap (λ ts. sum (map (paidStakes (m .game) (m .game + 1)) ts)) (sym (running-all (m .game) (m .live))))
+
+  settled-pools :
+      pooled (result .six) + pooled (result .eight) + result .shares + result .repaid
+      ≡ pooled (m .six) + pooled (m .eight) + result .contributions + result .seeds
+  unfolding settlement
+  settled-pools =
+      pools-balance (record { balls = ballsWith b m }) (m .six) (m .eight) (map (entryOf (m .game)) (runningIn (houseOf m)))
+
+  settled-sheet : Orderly m → sheetSettle b (sheetFor m) ≡ sheetFor (withLive (gameSettled b (houseOf m)) ticketsThen)
+  unfolding sheetSettle gameSettled tillOf settledBy
+  settled-sheet orderly =
+      ap₂ (λ r stakes. settledBy (sheetFor m) (settleLines (m .day) (m .game) (r .awards) (map (lineOf (m .game)) (m .live))) r stakes)
+      (settlements-alike m b orderly)
+      (stakes-alike m orderly)
+      ∙ sheet-same refl refl refl refl refl
+      (settled-lines (m .day) (m .game) (result .awards) (m .live) (orderly .tickets) awards-given)
+      (figures-same
+      refl
+      refl
+      refl
+      refl
+      (sym settled-owed)
+      (taken-off-sum
+      (stakesHeld (m .game) (m .live))
+      (stakesHeld (m .game + 1) ticketsThen)
+      (stakesDrawn (houseOf m))
+      (stakesDrawn (houseOf m))
+      settled-held
+      refl)
+      refl
+      (omega (arith, settled-pools))
+      (omega arith)
+      (omega arith))
+
+  settled-balance : Balanced (tillOf m) → Balanced (tillOf (withLive (gameSettled b (houseOf m)) ticketsThen))
+  unfolding gameSettled tillOf
+  settled-balance balance = omega (arith, balance, settled-owed, settled-held, settled-pools)
+
+  abbrev ledgerThen : Bool → Model
+  ledgerThen last = withLive (cond last (gameSettled b (houseOf m)) (ballEntered b (houseOf m))) (cond last ticketsThen (m .live))
+
+  ball-sheet : Orderly m → moved (ball b) (sheetFor m) ≡ sheetFor (ledgerAfter m (ball b))
+  unfolding moved sheetBall act ballEntered tillOf
+  ball-sheet orderly =
+      ap (λ last. cond last (sheetSettle b (sheetFor m)) (sheetFor (ledgerThen false))) (twentieth-alike m b) ∙ go (settles b m)
+    where
+      go : (last : Bool) → cond last (sheetSettle b (sheetFor m)) (sheetFor (ledgerThen false)) ≡ sheetFor (ledgerThen last)
+      go true = settled-sheet orderly
+      go false = refl
+
+  ball-balance : Balanced (tillOf m) → Balanced (tillOf (ledgerAfter m (ball b)))
+  unfolding act ballEntered tillOf
+  ball-balance balance = go (settles b m)
+    where
+      go : (last : Bool) → Balanced (tillOf (ledgerThen last))
+      go true = settled-balance balance
+      go false = balance
+
+-- ---- every command
+
+pub sheet-after : (m : Model) (c : Command) → Orderly m → codeOf (houseOf m) c ≡ 0 →
+    moved c (sheetFor m) ≡ sheetFor (ledgerAfter m c)
+sheet-after m (open′ d) orderly accepted = opened-sheet m d
+sheet-after m (sell o) orderly accepted = sold-sheet m o orderly
+sheet-after m (cancel n) orderly accepted = cancelled-sheet m n orderly (cancel-accepted (houseOf m) n accepted .here)
+sheet-after m (ball b) orderly accepted = ball-sheet m b orderly
+sheet-after m (claim n) orderly accepted = claimed-sheet m n orderly (claim-accepted (houseOf m) n accepted .here)
+sheet-after m expire orderly accepted = expired-sheet m
+sheet-after m (transfer j cents) orderly accepted =
+    transferred-sheet m j cents (transfer-accepted (houseOf m) j cents accepted .jackpot)
+
+pub balanced-after : (m : Model) (c : Command) → Orderly m → codeOf (houseOf m) c ≡ 0 →
+    Balanced (tillOf m) → Balanced (tillOf (ledgerAfter m c))
+balanced-after m (open′ d) orderly accepted = opened-balance m d
+balanced-after m (sell o) orderly accepted = sold-balance m o
+balanced-after m (cancel n) orderly accepted = cancelled-balance m n orderly (cancel-accepted (houseOf m) n accepted .here)
+balanced-after m (ball b) orderly accepted = ball-balance m b
+balanced-after m (claim n) orderly accepted = claimed-balance m n orderly (claim-accepted (houseOf m) n accepted .here)
+balanced-after m expire orderly accepted = expired-balance m
+balanced-after m (transfer j cents) orderly accepted =
+    transferred-balance m j cents (transfer-accepted (houseOf m) j cents accepted .covered)

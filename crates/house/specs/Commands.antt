@@ -1,0 +1,291 @@
+-- The seven commands: "Checked in this order [..] Top to bottom; the first met is given, and only then. A refusal answers its number, 0, 0 and
+-- changes no house". Each command has its rows of the refusal table, what it does and what it answers; `step` puts them together.
+use Prim.Native.Nat.{ℕ, _+_, _-_, min, max}
+use mathlib.Core.Bool.{Bool, cond, not, _&&_, _||_}
+use mathlib.Core.List.{List, [], _∷_, _++_, map}
+use lib.Dec.{ltb, leb, eqb}
+use lib.ListN.{length}
+use Rattle.rules.specs.Lists.{sum, keep, any, member}
+use Rattle.rules.specs.Checks.{Operands, operandRows, firstMet, wayCount, chargeOf}
+use Rattle.rules.specs.Price.{paidGames}
+use Rattle.rules.specs.Ways.{sizes}
+use Rattle.rules.specs.Settle.{Settled, settle, jackpotBy}
+use Rattle.rules.specs.declared.jackpot.Jackpot.{Jackpot}
+pub use Rattle.house.specs.declared.answer.Answer.{Answer}
+use Rattle.house.specs.Tickets.{Ticket, termsOf, runsIn, isFinished, isLive, paidStakes, entryOf, kenoToGoBegun, withDue, withStop, withFinishedDay}
+use Rattle.house.specs.Model.{Model, ticketLimit, gameLimit, liveLimit, isDrawing, nextGame}
+
+pub data Command : Type 0 where
+  open′ : ℕ → Command
+  sell : Operands → Command
+  cancel : ℕ → Command
+  ball : ℕ → Command
+  claim : ℕ → Command
+  expire : Command
+  transfer : ℕ → ℕ → Command
+
+-- ---- tickets by number
+
+abbrev pub blankTicket : Ticket
+blankTicket =
+    record { number = 0; operands = record { kind = 0; games = 0; stake = 0; groups = 0; types = 0; marks = [] }; ways = 0; jackpot = 0; soldDay = 0; first = 0; stop = 0; free = 0; due = 0; finishedDay = 0 }
+
+-- the live ticket of a number, or the blank one
+unfoldable pub ticketAt : ℕ → List Ticket → Ticket
+ticketAt n [] = blankTicket
+ticketAt n (t ∷ ts) = cond (eqb (t .number) n) t (ticketAt n ts)
+
+abbrev pub hasTicket : ℕ → List Ticket → Bool
+hasTicket n ts = any (λ t. eqb (t .number) n) ts
+
+-- the live tickets with a change made to one of them
+unfoldable pub changed : ℕ → (Ticket → Ticket) → List Ticket → List Ticket
+changed n f ts = map (λ t. cond (eqb (t .number) n) (f t) t) ts
+
+-- those that are still live where the given game is the current one
+unfoldable pub stillLive : ℕ → List Ticket → List Ticket
+stillLive game ts = keep (isLive game) ts
+
+-- a ticket that is now finished gets its finishing day
+abbrev pub finishedOn : ℕ → ℕ → Ticket → Ticket
+finishedOn day game t = cond (isFinished game t && eqb (t .finishedDay) 0) (withFinishedDay t day) t
+
+-- ---- the refusal table
+
+abbrev pub dayRow : Model → Bool × ℕ
+dayRow m = (eqb (m .day) 0, 4)
+
+-- Cancel and Claim begin with the ticket's number
+abbrev pub lookupRows : ℕ → Model → List (Bool × ℕ)
+lookupRows n m = dayRow m ∷ (eqb n 0 || ltb (m .issued) n, 18) ∷ (not (hasTicket n (m .live)), 19) ∷ []
+
+-- where Cancel cuts a ticket's games off
+abbrev pub cancelStop : Model → Ticket → ℕ
+cancelStop m t = max (t .first) (nextGame m)
+
+unfoldable pub rowsOf : Model → Command → List (Bool × ℕ)
+rowsOf m (open′ d) = (leb d (m .day), 5) ∷ (isDrawing m, 6) ∷ []
+rowsOf m (sell o) =
+    dayRow m
+    ∷ (operandRows o
+    ++ ((leb liveLimit (length (m .live)), 16)
+    ∷ (leb ticketLimit (m .issued) || ltb (gameLimit + 1) (nextGame m + o .games), 17)
+    ∷ []))
+rowsOf m (cancel n) =
+    lookupRows n m
+    ++ ((ltb (ticketAt n (m .live) .soldDay) (m .day), 20)
+    ∷ (kenoToGoBegun (m .game) (isDrawing m) (ticketAt n (m .live)), 21)
+    ∷ (leb (ticketAt n (m .live) .stop) (cancelStop m (ticketAt n (m .live))), 22)
+    ∷ [])
+rowsOf m (ball b) =
+    dayRow m
+    ∷ (not (leb 1 b && leb b 80), 25)
+    ∷ (ltb gameLimit (m .game), 26)
+    ∷ (member b (m .balls), 27)
+    ∷ []
+rowsOf m (claim n) =
+    lookupRows n m
+    ++ ((not (isFinished (m .game) (ticketAt n (m .live))), 23)
+    ∷ (eqb (ticketAt n (m .live) .due) 0, 24)
+    ∷ [])
+rowsOf m expire = dayRow m ∷ []
+rowsOf m (transfer j cents) =
+    dayRow m
+    ∷ (not (eqb j 6 || eqb j 8), 28)
+    ∷ (isDrawing m, 6)
+    ∷ (eqb cents 0 || ltb (m .counters .unclaimed) cents, 29)
+    ∷ []
+
+unfoldable pub codeOf : Model → Command → ℕ
+codeOf m c = firstMet (rowsOf m c)
+
+-- ---- what an accepted command does
+
+-- Open: the day begins
+unfoldable pub opened : ℕ → Model → Model
+opened d m =
+    record { day = d; game = m .game; balls = m .balls; issued = m .issued; live = m .live; six = m .six; eight = m .eight; counters = m .counters }
+
+-- Sell: one ticket more, for its first game and those after it
+abbrev pub soldTicket : Model → Operands → Ticket
+soldTicket m o =
+    record {
+      number = m .issued + 1;
+      operands = o;
+      ways = wayCount o;
+      jackpot = jackpotBy (termsOf o) (sizes (o .marks));
+      soldDay = m .day;
+      first = nextGame m;
+      stop = nextGame m + o .games;
+      free = nextGame m + paidGames (o .games);
+      due = 0;
+      finishedDay = 0;
+    }
+
+unfoldable pub sold : Operands → Model → Model
+sold o m =
+    record {
+      day = m .day;
+      game = m .game;
+      balls = m .balls;
+      issued = m .issued + 1;
+      live = m .live ++ (soldTicket m o ∷ []);
+      six = m .six;
+      eight = m .eight;
+      counters = record { taken = m .counters .taken + chargeOf o; seeds = m .counters .seeds; paid = m .counters .paid; refunded = m .counters .refunded; unclaimed = m .counters .unclaimed; gained = m .counters .gained; lost = m .counters .lost };
+    }
+
+-- Cancel: every undrawn game but the one being drawn is taken off, and its paid stakes go back
+unfoldable pub refundOf : ℕ → Model → ℕ
+refundOf n m =
+    let t = ticketAt n (m .live) in
+    paidStakes (cancelStop m t) (t .stop) t
+
+abbrev pub cancelledTicket : Model → Ticket → Ticket
+cancelledTicket m t = finishedOn (m .day) (m .game) (withStop t (min (t .stop) (cancelStop m t)))
+
+unfoldable pub cancelled : ℕ → Model → Model
+cancelled n m =
+    record {
+      day = m .day;
+      game = m .game;
+      balls = m .balls;
+      issued = m .issued;
+      live = stillLive (m .game) (changed n (cancelledTicket m) (m .live));
+      six = m .six;
+      eight = m .eight;
+      counters = record { taken = m .counters .taken; seeds = m .counters .seeds; paid = m .counters .paid; refunded = m .counters .refunded + refundOf n m; unclaimed = m .counters .unclaimed; gained = m .counters .gained; lost = m .counters .lost };
+    }
+
+-- Ball: one number more; the twentieth settles the game
+abbrev pub ballsWith : ℕ → Model → List ℕ
+ballsWith b m = m .balls ++ (b ∷ [])
+
+abbrev pub settles : ℕ → Model → Bool
+settles b m = eqb (length (ballsWith b m)) 20
+
+abbrev pub runningIn : Model → List Ticket
+runningIn m = keep (runsIn (m .game)) (m .live)
+
+unfoldable pub settlement : ℕ → Model → Settled
+settlement b m = settle (record { balls = ballsWith b m }) (m .six) (m .eight) (map (entryOf (m .game)) (runningIn m))
+
+-- each ticket that runs in the game is due its award beside what it was due
+unfoldable pub awarded : ℕ → List ℕ → List Ticket → List Ticket
+awarded game awards [] = []
+awarded game [] (t ∷ ts) = t ∷ awarded game [] ts
+awarded game (a ∷ awards) (t ∷ ts) =
+    cond (runsIn game t) (withDue t (t .due + a) ∷ awarded game awards ts) (t ∷ awarded game (a ∷ awards) ts)
+
+-- the paid stakes of the game that is drawn
+abbrev pub stakesDrawn : Model → ℕ
+stakesDrawn m = sum (map (paidStakes (m .game) (m .game + 1)) (runningIn m))
+
+unfoldable pub gameSettled : ℕ → Model → Model
+gameSettled b m =
+    let s = settlement b m in
+    record {
+      day = m .day;
+      game = m .game + 1;
+      balls = [];
+      issued = m .issued;
+      live = stillLive (m .game + 1) (map (finishedOn (m .day) (m .game + 1)) (awarded (m .game) (s .awards) (m .live)));
+      six = s .six;
+      eight = s .eight;
+      counters = record { taken = m .counters .taken; seeds = m .counters .seeds + s .seeds; paid = m .counters .paid; refunded = m .counters .refunded; unclaimed = m .counters .unclaimed; gained = m .counters .gained + stakesDrawn m + s .repaid; lost = m .counters .lost + s .contributions + s .prizes };
+    }
+
+unfoldable pub ballEntered : ℕ → Model → Model
+ballEntered b m =
+    record { day = m .day; game = m .game; balls = ballsWith b m; issued = m .issued; live = m .live; six = m .six; eight = m .eight; counters = m .counters }
+
+-- Claim: everything the ticket won is paid, and it closes
+unfoldable pub claimed : ℕ → Model → Model
+claimed n m =
+    record {
+      day = m .day;
+      game = m .game;
+      balls = m .balls;
+      issued = m .issued;
+      live = stillLive (m .game) (changed n (λ t. withDue t 0) (m .live));
+      six = m .six;
+      eight = m .eight;
+      counters = record { taken = m .counters .taken; seeds = m .counters .seeds; paid = m .counters .paid + ticketAt n (m .live) .due; refunded = m .counters .refunded; unclaimed = m .counters .unclaimed; gained = m .counters .gained; lost = m .counters .lost };
+    }
+
+-- Expire: live finished tickets whose finishing day + 365 is less than today
+unfoldable pub isExpired : Model → Ticket → Bool
+isExpired m t = isFinished (m .game) t && ltb (t .finishedDay + 365) (m .day)
+
+abbrev pub expiring : Model → List Ticket
+expiring m = keep (isExpired m) (m .live)
+
+unfoldable pub expired : Model → Model
+expired m =
+    record {
+      day = m .day;
+      game = m .game;
+      balls = m .balls;
+      issued = m .issued;
+      live = stillLive (m .game) (map (λ t. cond (isExpired m t) (withDue t 0) t) (m .live));
+      six = m .six;
+      eight = m .eight;
+      counters = record { taken = m .counters .taken; seeds = m .counters .seeds; paid = m .counters .paid; refunded = m .counters .refunded; unclaimed = m .counters .unclaimed + sum (map (λ t. t .due) (expiring m)); gained = m .counters .gained; lost = m .counters .lost };
+    }
+
+-- Transfer: unclaimed money into a primary
+abbrev pub withPrimary : Jackpot → ℕ → Jackpot
+withPrimary j cents = record { primary = cents; secondary = j .secondary; reimbursement = j .reimbursement; debt = j .debt }
+
+abbrev pub jackpotFor : ℕ → Model → Jackpot
+jackpotFor j m = cond (eqb j 6) (m .six) (m .eight)
+
+unfoldable pub transferred : ℕ → ℕ → Model → Model
+transferred j cents m =
+    record {
+      day = m .day;
+      game = m .game;
+      balls = m .balls;
+      issued = m .issued;
+      live = m .live;
+      six = cond (eqb j 6) (withPrimary (m .six) (m .six .primary + cents)) (m .six);
+      eight = cond (eqb j 6) (m .eight) (withPrimary (m .eight) (m .eight .primary + cents));
+      counters = record { taken = m .counters .taken; seeds = m .counters .seeds; paid = m .counters .paid; refunded = m .counters .refunded; unclaimed = m .counters .unclaimed - cents; gained = m .counters .gained; lost = m .counters .lost };
+    }
+
+-- ---- the answer's number and cents
+
+abbrev pub replies : ℕ → ℕ → Answer
+replies n cents = record { code = 0; number = n; cents = cents }
+
+unfoldable pub act : Model → Command → Model
+act m (open′ d) = opened d m
+act m (sell o) = sold o m
+act m (cancel n) = cancelled n m
+act m (ball b) = cond (settles b m) (gameSettled b m) (ballEntered b m)
+act m (claim n) = claimed n m
+act m expire = expired m
+act m (transfer j cents) = transferred j cents m
+
+unfoldable pub reply : Model → Command → Answer
+reply m (open′ d) = replies d 0
+reply m (sell o) = replies (m .issued + 1) (chargeOf o)
+reply m (cancel n) = replies n (refundOf n m)
+reply m (ball b) =
+    replies (length (ballsWith b m)) (cond (settles b m) (settlement b m .prizes + settlement b m .shares) 0)
+reply m (claim n) = replies n (ticketAt n (m .live) .due)
+reply m expire = replies (length (expiring m)) (sum (map (λ t. t .due) (expiring m)))
+reply m (transfer j cents) = replies j (jackpotFor j m .primary + cents)
+
+-- ---- one command
+
+pub record Outcome : Type 0 where
+  pub house : Model
+  pub answer : Answer
+
+unfoldable pub step : Model → Command → Outcome
+step m c =
+    let code = codeOf m c in
+    cond (eqb code 0)
+    (record { house = act m c; answer = reply m c })
+    (record { house = m; answer = record { code = code; number = 0; cents = 0 } })

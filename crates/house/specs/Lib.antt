@@ -1,0 +1,9 @@
+pub mod Tickets
+pub mod Model
+pub mod Commands
+pub mod Till
+pub mod Sheet
+pub mod Claims
+pub mod Balance
+pub mod View
+pub mod Parts

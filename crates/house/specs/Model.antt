@@ -1,0 +1,61 @@
+-- "Fresh: day 0, game 1, no balls, no tickets, primaries at their guarantees, debts the same, seeds 1,350,000. Drawing means 1 to 19 balls
+-- are in." The house as the commands change it. What is owed, held and pooled stands in the tickets and the pools: see Till.
+use Prim.Native.Nat.{ℕ, _+_}
+use mathlib.Core.Bool.{Bool, not, cond}
+use mathlib.Core.List.{List, []}
+use lib.Dec.{eqb}
+use lib.ListN.{length}
+use Rattle.rules.specs.Jackpots.{guaranteeOfSix, guaranteeOfEight, freshJackpot}
+use Rattle.rules.specs.declared.jackpot.Jackpot.{Jackpot}
+use Rattle.house.specs.Tickets.{Ticket}
+
+-- the figures of the till that no ticket or pool tells; retained is gained less lost
+pub record Counters : Type 0 where
+  pub taken : ℕ
+  pub seeds : ℕ
+  pub paid : ℕ
+  pub refunded : ℕ
+  pub unclaimed : ℕ
+  pub gained : ℕ
+  pub lost : ℕ
+
+pub record Model : Type 0 where
+  pub day : ℕ
+  pub game : ℕ
+  -- of the current game, in the order of the draw
+  pub balls : List ℕ
+  pub issued : ℕ
+  -- in rising number
+  pub live : List Ticket
+  pub six : Jackpot
+  pub eight : Jackpot
+  pub counters : Counters
+
+abbrev pub ticketLimit : ℕ
+ticketLimit = 9999999
+
+abbrev pub gameLimit : ℕ
+gameLimit = 9999999
+
+abbrev pub liveLimit : ℕ
+liveLimit = 200
+
+abbrev pub fresh : Model
+fresh =
+    record {
+      day = 0;
+      game = 1;
+      balls = [];
+      issued = 0;
+      live = [];
+      six = freshJackpot guaranteeOfSix;
+      eight = freshJackpot guaranteeOfEight;
+      counters = record { taken = 0; seeds = guaranteeOfSix + guaranteeOfEight; paid = 0; refunded = 0; unclaimed = 0; gained = 0; lost = 0 };
+    }
+
+abbrev pub isDrawing : Model → Bool
+isDrawing m = not (eqb (length (m .balls)) 0)
+
+-- the first game that is not being drawn: where a new ticket begins, and what Cancel can still take off
+abbrev pub nextGame : Model → ℕ
+nextGame m = cond (isDrawing m) (m .game + 1) (m .game)

@@ -1,0 +1,261 @@
+-- "The count sheet is fed each command with its operands and its answer's code, and nothing else from the house. It holds today, the game, its
+-- balls, the six pools, the two debts, the nine figures, and a line for each accepted Sell, numbered from 1. It starts as a fresh house does,
+-- with seeds and pooled 1,350,000 and the other figures 0. On a code other than 0 nothing on it changes." It shares the rule book with the
+-- house, the commands and the shape of an answer, and no record, check or money move.
+use Prim.Native.Nat.{ℕ, zero, suc, _+_, _-_}
+use mathlib.Core.Bool.{Bool, cond, not, _&&_}
+use mathlib.Core.List.{List, [], _∷_, _++_, map}
+use lib.Dec.{ltb, eqb}
+use lib.ListN.{length}
+use Rattle.rules.specs.Lists.{sum, keep, member}
+use Rattle.rules.specs.Kinds.{kindOf}
+use Rattle.rules.specs.Price.{paidGames, charge}
+use Rattle.rules.specs.Checks.{Operands, wayCount, chargeOf}
+use Rattle.rules.specs.Jackpots.{guaranteeOfSix, guaranteeOfEight, freshJackpot}
+use Rattle.rules.specs.Settle.{Entry, Settled, settle}
+use Rattle.rules.specs.declared.jackpot.Jackpot.{Jackpot}
+use Rattle.house.specs.Commands.{Command, open′, sell, cancel, ball, claim, expire, transfer}
+use Rattle.house.specs.Till.{Figures}
+
+pub record Line : Type 0 where
+  pub number : ℕ
+  pub operands : Operands
+  pub first : ℕ
+  pub left : List ℕ
+  pub due : ℕ
+  pub finishingDay : ℕ
+
+pub record Sheet : Type 0 where
+  pub today : ℕ
+  pub game : ℕ
+  pub balls : List ℕ
+  pub six : Jackpot
+  pub eight : Jackpot
+  pub lines : List Line
+  pub figures : Figures
+
+abbrev pub freshSheet : Sheet
+freshSheet =
+    record {
+      today = 0;
+      game = 1;
+      balls = [];
+      six = freshJackpot guaranteeOfSix;
+      eight = freshJackpot guaranteeOfEight;
+      lines = [];
+      figures = record { taken = 0; seeds = 1350000; paid = 0; refunded = 0; owed = 0; held = 0; unclaimed = 0; pooled = 1350000; gained = 0; lost = 0 };
+    }
+
+-- ---- lines
+
+-- so many games in a row from the first on
+unfoldable pub gamesFrom : ℕ → ℕ → List ℕ
+gamesFrom first zero = []
+gamesFrom first (suc n) = first ∷ gamesFrom (first + 1) n
+
+-- the paid stakes of some games of a line: its last ones are free
+unfoldable pub stakesOf : Line → List ℕ → ℕ
+stakesOf l games =
+    charge (l .operands .stake) (wayCount (l .operands))
+    (length (keep (λ g. ltb g (l .first + paidGames (l .operands .games))) games))
+
+abbrev pub lineEntry : ℕ → Line → Entry
+lineEntry game l =
+    record {
+      terms = record { kind = kindOf (l .operands .kind); games = l .operands .games; stake = l .operands .stake; groups = l .operands .groups; types = l .operands .types };
+      marks = l .operands .marks;
+      paid = stakesOf l (game ∷ []);
+    }
+
+-- a line with other games left: "A line gets today as its finishing day when its last game goes."
+unfoldable pub leftWith : ℕ → List ℕ → Line → Line
+leftWith today left l =
+    record { number = l .number; operands = l .operands; first = l .first; left = left; due = l .due; finishingDay = cond (eqb (length left) 0 && not (eqb (length (l .left)) 0)) today (l .finishingDay) }
+
+abbrev pub dueOf : ℕ → Line → Line
+dueOf cents l =
+    record { number = l .number; operands = l .operands; first = l .first; left = l .left; due = cents; finishingDay = l .finishingDay }
+
+unfoldable pub onLine : ℕ → (Line → Line) → List Line → List Line
+onLine n f ls = map (λ l. cond (eqb (l .number) n) (f l) l) ls
+
+unfoldable pub totalAt : ℕ → (Line → ℕ) → List Line → ℕ
+totalAt n f ls = sum (map f (keep (λ l. eqb (l .number) n) ls))
+
+-- ---- the moves
+
+-- "Open sets today."
+unfoldable pub sheetOpen : ℕ → Sheet → Sheet
+sheetOpen d s =
+    record { today = d; game = s .game; balls = s .balls; six = s .six; eight = s .eight; lines = s .lines; figures = s .figures }
+
+abbrev pub inDraw : Sheet → Bool
+inDraw s = not (eqb (length (s .balls)) 0)
+
+-- "Sell adds a line: its operands, the games left (all it is sold for), due 0. The charge joins taken and held."
+abbrev pub newLine : Operands → Sheet → Line
+newLine o s =
+    let first = cond (inDraw s) (s .game + 1) (s .game) in
+    record { number = length (s .lines) + 1; operands = o; first = first; left = gamesFrom first (o .games); due = 0; finishingDay = 0 }
+
+unfoldable pub sheetSell : Operands → Sheet → Sheet
+sheetSell o s =
+    let f = s .figures in
+    record {
+      today = s .today;
+      game = s .game;
+      balls = s .balls;
+      six = s .six;
+      eight = s .eight;
+      lines = s .lines ++ (newLine o s ∷ []);
+      figures = record { taken = f .taken + chargeOf o; seeds = f .seeds; paid = f .paid; refunded = f .refunded; owed = f .owed; held = f .held + chargeOf o; unclaimed = f .unclaimed; pooled = f .pooled; gained = f .gained; lost = f .lost };
+    }
+
+-- "Cancel takes off the line's games left, but not the current one when drawing. Their paid stakes go from held to refunded."
+abbrev pub stays : Sheet → ℕ → Bool
+stays s g = inDraw s && eqb g (s .game)
+
+unfoldable pub takenOff : Sheet → Line → ℕ
+takenOff s l = stakesOf l (keep (λ g. not (stays s g)) (l .left))
+
+unfoldable pub sheetCancel : ℕ → Sheet → Sheet
+sheetCancel n s =
+    let f = s .figures in
+    let back = totalAt n (takenOff s) (s .lines) in
+    record {
+      today = s .today;
+      game = s .game;
+      balls = s .balls;
+      six = s .six;
+      eight = s .eight;
+      lines = onLine n (λ l. leftWith (s .today) (keep (stays s) (l .left)) l) (s .lines);
+      figures = record { taken = f .taken; seeds = f .seeds; paid = f .paid; refunded = f .refunded + back; owed = f .owed; held = f .held - back; unclaimed = f .unclaimed; pooled = f .pooled; gained = f .gained; lost = f .lost };
+    }
+
+-- "Ball adds the number. The twentieth settles every line with that game left, by Prizes and Jackpots."
+abbrev pub playing : Sheet → List Line
+playing s = keep (λ l. member (s .game) (l .left)) (s .lines)
+
+unfoldable pub sheetSettlement : ℕ → Sheet → Settled
+sheetSettlement b s =
+    settle (record { balls = s .balls ++ (b ∷ []) }) (s .six) (s .eight) (map (lineEntry (s .game)) (playing s))
+
+-- "Prizes as cut and jackpot shares join the lines' dues [..]. The game is left no more"
+unfoldable pub settleLines : ℕ → ℕ → List ℕ → List Line → List Line
+settleLines today game awards [] = []
+settleLines today game [] (l ∷ ls) = l ∷ settleLines today game [] ls
+settleLines today game (a ∷ awards) (l ∷ ls) =
+    cond (member game (l .left))
+    (leftWith today (keep (λ g. not (eqb g game)) (l .left)) (dueOf (l .due + a) l) ∷ settleLines today game awards ls)
+    (l ∷ settleLines today game (a ∷ awards) ls)
+
+-- "[..] and owed. Held loses the paid stakes. Seeds gains the seeds. Pooled gains contributions and seeds, less shares and money paid back.
+-- Retained gains the paid stakes and money paid back, less contributions and prizes. [..] the next is current, without balls."
+unfoldable pub sheetSettle : ℕ → Sheet → Sheet
+sheetSettle b s =
+    let f = s .figures in
+    let r = sheetSettlement b s in
+    let stakes = sum (map (λ l. stakesOf l (s .game ∷ [])) (playing s)) in
+    record {
+      today = s .today;
+      game = s .game + 1;
+      balls = [];
+      six = r .six;
+      eight = r .eight;
+      lines = settleLines (s .today) (s .game) (r .awards) (s .lines);
+      figures = record { taken = f .taken; seeds = f .seeds + r .seeds; paid = f .paid; refunded = f .refunded; owed = f .owed + (r .prizes + r .shares); held = f .held - stakes; unclaimed = f .unclaimed; pooled = f .pooled + (r .contributions + r .seeds) - (r .shares + r .repaid); gained = f .gained + (stakes + r .repaid); lost = f .lost + (r .contributions + r .prizes) };
+    }
+
+abbrev pub twentieth : Sheet → Bool
+twentieth s = eqb (length (s .balls)) 19
+
+unfoldable pub sheetBall : ℕ → Sheet → Sheet
+sheetBall b s =
+    cond (twentieth s) (sheetSettle b s)
+    (record { today = s .today; game = s .game; balls = s .balls ++ (b ∷ []); six = s .six; eight = s .eight; lines = s .lines; figures = s .figures })
+
+-- "Claim moves the line's due from owed to paid. [..] A due that was moved is 0."
+unfoldable pub sheetClaim : ℕ → Sheet → Sheet
+sheetClaim n s =
+    let f = s .figures in
+    let due = totalAt n (λ l. l .due) (s .lines) in
+    record {
+      today = s .today;
+      game = s .game;
+      balls = s .balls;
+      six = s .six;
+      eight = s .eight;
+      lines = onLine n (dueOf 0) (s .lines);
+      figures = record { taken = f .taken; seeds = f .seeds; paid = f .paid + due; refunded = f .refunded; owed = f .owed - due; held = f .held; unclaimed = f .unclaimed; pooled = f .pooled; gained = f .gained; lost = f .lost };
+    }
+
+-- "Expire moves, from owed to unclaimed, each due above 0 of a line with no game left and finishing day + 365 less than today."
+unfoldable pub tooLate : Sheet → Line → Bool
+tooLate s l = ltb 0 (l .due) && eqb (length (l .left)) 0 && ltb (l .finishingDay + 365) (s .today)
+
+abbrev pub lateDues : Sheet → List ℕ
+lateDues s = map (λ l. l .due) (keep (tooLate s) (s .lines))
+
+unfoldable pub sheetExpire : Sheet → Sheet
+sheetExpire s =
+    let f = s .figures in
+    record {
+      today = s .today;
+      game = s .game;
+      balls = s .balls;
+      six = s .six;
+      eight = s .eight;
+      lines = map (λ l. cond (tooLate s l) (dueOf 0 l) l) (s .lines);
+      figures = record { taken = f .taken; seeds = f .seeds; paid = f .paid; refunded = f .refunded; owed = f .owed - sum (lateDues s); held = f .held; unclaimed = f .unclaimed + sum (lateDues s); pooled = f .pooled; gained = f .gained; lost = f .lost };
+    }
+
+-- "Transfer moves the cents from unclaimed to that primary and to pooled."
+abbrev pub primaryWith : ℕ → Jackpot → Jackpot
+primaryWith cents j =
+    record { primary = j .primary + cents; secondary = j .secondary; reimbursement = j .reimbursement; debt = j .debt }
+
+unfoldable pub sheetTransfer : ℕ → ℕ → Sheet → Sheet
+sheetTransfer j cents s =
+    let f = s .figures in
+    record {
+      today = s .today;
+      game = s .game;
+      balls = s .balls;
+      six = cond (eqb j 6) (primaryWith cents (s .six)) (s .six);
+      eight = cond (eqb j 8) (primaryWith cents (s .eight)) (s .eight);
+      lines = s .lines;
+      figures = record { taken = f .taken; seeds = f .seeds; paid = f .paid; refunded = f .refunded; owed = f .owed; held = f .held; unclaimed = f .unclaimed - cents; pooled = f .pooled + cents; gained = f .gained; lost = f .lost };
+    }
+
+-- ---- a command and its code
+
+unfoldable pub moved : Command → Sheet → Sheet
+moved (open′ d) s = sheetOpen d s
+moved (sell o) s = sheetSell o s
+moved (cancel n) s = sheetCancel n s
+moved (ball b) s = sheetBall b s
+moved (claim n) s = sheetClaim n s
+moved expire s = sheetExpire s
+moved (transfer j cents) s = sheetTransfer j cents s
+
+unfoldable pub feed : Sheet → Command → ℕ → Sheet
+feed s c code = cond (eqb code 0) (moved c s) s
+
+-- "Its answers are those of the table above, from what the sheet itself holds; Expire's number is how many dues it moved."
+unfoldable pub sheetNumber : Sheet → Command → ℕ
+sheetNumber s (open′ d) = d
+sheetNumber s (sell o) = length (s .lines) + 1
+sheetNumber s (cancel n) = n
+sheetNumber s (ball b) = length (s .balls) + 1
+sheetNumber s (claim n) = n
+sheetNumber s expire = length (lateDues s)
+sheetNumber s (transfer j cents) = j
+
+unfoldable pub sheetCents : Sheet → Command → ℕ
+sheetCents s (open′ d) = 0
+sheetCents s (sell o) = chargeOf o
+sheetCents s (cancel n) = totalAt n (takenOff s) (s .lines)
+sheetCents s (ball b) = cond (twentieth s) (sheetSettlement b s .prizes + sheetSettlement b s .shares) 0
+sheetCents s (claim n) = totalAt n (λ l. l .due) (s .lines)
+sheetCents s expire = sum (lateDues s)
+sheetCents s (transfer j cents) = cond (eqb j 6) (s .six .primary) (s .eight .primary) + cents

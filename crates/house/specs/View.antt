@@ -1,0 +1,91 @@
+-- What the house's struct and the lent buffers say: "the live tickets stand in two buffers". The view is the model that the commands' contracts
+-- speak of; rows beyond the live ones are no part of it.
+use Prim.Native.Nat.{ℕ, suc, _+_, _*_}
+use mathlib.Core.Bool.{cond}
+use mathlib.Core.List.{List, [], _∷_, _++_, map}
+use lib.Dec.{eqb}
+use lib.ListN.{take, drop, getD}
+use lib.Seq.{sets}
+use Rattle.rules.specs.Lists.{below}
+use Rattle.house.specs.Tickets.{Ticket}
+use Rattle.house.specs.Model.{Model}
+use Rattle.house.specs.declared.state.House.{House}
+use Rattle.house.specs.declared.rows.Row.{Row}
+
+-- the row of words that starts at a place of the buffer
+abbrev pub rowOf : List ℕ → ℕ → Row
+rowOf words at =
+    record {
+      number = getD words at 0;
+      kind = getD words (at + 1) 0;
+      games = getD words (at + 2) 0;
+      stake = getD words (at + 3) 0;
+      groups = getD words (at + 4) 0;
+      types = getD words (at + 5) 0;
+      ways = getD words (at + 6) 0;
+      jackpot = getD words (at + 7) 0;
+      sold = getD words (at + 8) 0;
+      first = getD words (at + 9) 0;
+      stop = getD words (at + 10) 0;
+      free = getD words (at + 11) 0;
+      due = getD words (at + 12) 0;
+      finished = getD words (at + 13) 0;
+    }
+
+unfoldable pub putRow : List ℕ → ℕ → Row → List ℕ
+putRow words at w =
+    sets words at
+    (w .number ∷ w .kind ∷ w .games ∷ w .stake ∷ w .groups ∷ w .types ∷ w .ways ∷ w .jackpot ∷ w .sold ∷ w .first ∷ w .stop ∷ w .free ∷ w .due ∷ w .finished ∷ [])
+
+-- the 80 marks of the ticket at a place
+unfoldable pub marksAt : List ℕ → ℕ → List ℕ
+marksAt marks i = take 80 (drop (i * 80) marks)
+
+unfoldable pub putMarks : List ℕ → ℕ → List ℕ → List ℕ
+putMarks marks i these = take (i * 80) marks ++ these ++ drop (i * 80 + 80) marks
+
+-- a row and its marks as a ticket
+abbrev pub ticketFrom : Row → List ℕ → Ticket
+ticketFrom w marks =
+    record {
+      number = w .number;
+      operands = record { kind = w .kind; games = w .games; stake = w .stake; groups = w .groups; types = w .types; marks = marks };
+      ways = w .ways;
+      jackpot = w .jackpot;
+      soldDay = w .sold;
+      first = w .first;
+      stop = w .stop;
+      free = w .free;
+      due = w .due;
+      finishedDay = w .finished;
+    }
+
+abbrev pub ticketIn : List ℕ → List ℕ → ℕ → Ticket
+ticketIn words marks i = ticketFrom (rowOf words (i * 16)) (marksAt marks i)
+
+-- all 200 rows
+unfoldable pub ticketsOf : List ℕ → List ℕ → List Ticket
+ticketsOf words marks = map (ticketIn words marks) (below 200)
+
+-- the place of a number among tickets, or how many they are
+unfoldable pub placeOf : ℕ → List Ticket → ℕ
+placeOf n [] = 0
+placeOf n (t ∷ ts) = cond (eqb (t .number) n) 0 (suc (placeOf n ts))
+
+-- a list without the element at a place
+unfoldable pub without {ℓ} : {A : Type ℓ} → ℕ → List A → List A
+without i xs = take i xs ++ drop (suc i) xs
+
+-- the house
+unfoldable pub view : House → List ℕ → List ℕ → Model
+view h words marks =
+    record {
+      day = h .day;
+      game = h .game;
+      balls = map (λ i. getD (h .balls) i 0) (below (h .drawn));
+      issued = h .issued;
+      live = map (ticketIn words marks) (below (h .live));
+      six = h .six;
+      eight = h .eight;
+      counters = record { taken = h .counters .taken; seeds = h .counters .seeds; paid = h .counters .paid; refunded = h .counters .refunded; unclaimed = h .counters .unclaimed; gained = h .counters .gained; lost = h .counters .lost };
+    }

@@ -1,0 +1,203 @@
+// The live tickets in the buffers that a caller lends: 200 rows of 16 words, one word a field, and 80 marks a ticket. The first `live` of them
+// are the house's, in rising ticket number; what stands beyond is no part of it.
+ghost use mathlib.Core.Path.{_≡_};
+ghost use mathlib.Core.List.{List, [], _∷_, _++_};
+ghost use Prim.Native.Nat.{ℕ, _+_, _-_, _*_, _<_, _≤_};
+ghost use lib.ListN.{length, take, set, getD};
+ghost use lib.Seq.{sets};
+ghost use Rattle.house.specs.Commands.{blankTicket};
+ghost use Rattle.house.specs.View.{rowOf, putRow, marksAt, putMarks, ticketFrom, ticketsOf, placeOf, without};
+
+// A buffer is as long as its type says: learnt by lending it as a slice.
+pub fn known_words(rows: &[u64; 3200])
+    ensures { λ r. ⌜ length (now (rows .entry)) ≡ 3200 ⌝ }
+{
+    lent_words(rows);
+}
+
+fn lent_words(_: &[u64]) {}
+
+pub fn known_marks(marks: &[u8; 16000])
+    ensures { λ r. ⌜ length (now (marks .entry)) ≡ 16000 ⌝ }
+{
+    lent_marks(marks);
+}
+
+fn lent_marks(_: &[u8]) {}
+
+// The words of a ticket.
+pub struct Row {
+    pub number: u64,
+    pub kind: u64,
+    pub games: u64,
+    pub stake: u64,
+    pub groups: u64,
+    pub types: u64,
+    pub ways: u64,
+    pub jackpot: u64,
+    pub sold: u64,
+    pub first: u64,
+    pub stop: u64,
+    pub free: u64,
+    pub due: u64,
+    pub finished: u64,
+}
+
+// The row at a place.
+pub fn read_row(rows: &[u64; 3200], i: usize) -> Row
+    requires { ⌜ i < 200 ⌝ }
+    ensures { λ r. ⌜ r ≡ rowOf (now (rows .entry)) (i * 16) ⌝ }
+{
+    let at = i * 16;
+    Row {
+        number: rows[at],
+        kind: rows[at + 1],
+        games: rows[at + 2],
+        stake: rows[at + 3],
+        groups: rows[at + 4],
+        types: rows[at + 5],
+        ways: rows[at + 6],
+        jackpot: rows[at + 7],
+        sold: rows[at + 8],
+        first: rows[at + 9],
+        stop: rows[at + 10],
+        free: rows[at + 11],
+        due: rows[at + 12],
+        finished: rows[at + 13],
+    }
+}
+
+// Fourteen words from a place on.
+fn put_words(rows: &mut [u64; 3200], at: usize, words: &[u64])
+    requires { ⌜ (at ≤ 3186) × (length (now words) ≡ 14) ⌝ }
+    ensures { λ r. ⌜ now (rows .exit) ≡ sets (now (rows .entry)) at (now (words .entry)) ⌝ }
+{
+    let mut k = 0;
+    while k < 14 {
+        rows[at + k] = words[k];
+        k += 1;
+    }
+}
+
+// Another row at a place.
+pub fn write_row(rows: &mut [u64; 3200], i: usize, row: Row)
+    requires { ⌜ i < 200 ⌝ }
+    ensures { λ r. ⌜ now (rows .exit) ≡ putRow (now (rows .entry)) (i * 16) row ⌝ }
+{
+    let words = [
+        row.number,
+        row.kind,
+        row.games,
+        row.stake,
+        row.groups,
+        row.types,
+        row.ways,
+        row.jackpot,
+        row.sold,
+        row.first,
+        row.stop,
+        row.free,
+        row.due,
+        row.finished,
+    ];
+    put_words(rows, i * 16, &words);
+}
+
+// A ticket's marks, written from the 80 of a sale.
+pub fn write_marks(marks: &mut [u8; 16000], i: usize, from: &[u8])
+    requires { ⌜ (i < 200) × (length (now from) ≡ 80) ⌝ }
+    ensures { λ r. ⌜ now (marks .exit) ≡ putMarks (now (marks .entry)) i (now (from .entry)) ⌝ }
+{
+    known_marks(marks);
+    let at = i * 80;
+    let mut k = 0;
+    while k < 80 {
+        marks[at + k] = from[k];
+        k += 1;
+    }
+}
+
+// The marks of one ticket in the place of another's.
+fn move_marks(marks: &mut [u8; 16000], from: usize, to: usize)
+    requires { ⌜ (to < from) × (from < 200) ⌝ }
+    ensures { λ r. ⌜ now (marks .exit) ≡ putMarks (now (marks .entry)) to (marksAt (now (marks .entry)) from) ⌝ }
+{
+    known_marks(marks);
+    let source = from * 80;
+    let at = to * 80;
+    let mut k = 0;
+    while k < 80 {
+        let mark = marks[source + k];
+        marks[at + k] = mark;
+        k += 1;
+    }
+}
+
+// The place of a ticket's number among the live ones, or their number where it is not there.
+pub fn place_of(rows: &[u64; 3200], live: usize, number: u64) -> usize
+    requires { ⌜ live ≤ 200 ⌝ }
+    ensures { λ r. ⌜ ((m : List ℕ) → r ≡ placeOf number (take live (ticketsOf (now (rows .entry)) m))) ⌝ }
+{
+    let mut i = 0;
+    while i < live {
+        let at = i * 16;
+        if rows[at] == number {
+            return i;
+        }
+        i += 1;
+    }
+    live
+}
+
+// Another row in the place of a ticket's, which keeps its marks.
+pub fn change_ticket(rows: &mut [u64; 3200], i: usize, row: Row)
+    requires { ⌜ i < 200 ⌝ }
+    ensures { λ r. ⌜ ((m : List ℕ) → ticketsOf (now (rows .exit)) m ≡ set (ticketsOf (now (rows .entry)) m) i (ticketFrom row (marksAt m i))) ⌝ }
+{
+    known_words(rows);
+    write_row(rows, i, row);
+}
+
+// One ticket more behind the live ones.
+pub fn append_ticket(
+    rows: &mut [u64; 3200],
+    marks: &mut [u8; 16000],
+    live: usize,
+    row: Row,
+    from: &[u8],
+)
+    requires { ⌜ (live < 200) × (length (now from) ≡ 80) ⌝ }
+    ensures { λ r. ⌜ take (live + 1) (ticketsOf (now (rows .exit)) (now (marks .exit))) ≡ take live (ticketsOf (now (rows .entry)) (now (marks .entry))) ++ (ticketFrom row (now (from .entry)) ∷ []) ⌝ }
+{
+    known_words(rows);
+    known_marks(marks);
+    write_row(rows, live, row);
+    write_marks(marks, live, from);
+}
+
+// One ticket with its marks in the place of another.
+pub fn move_ticket(rows: &mut [u64; 3200], marks: &mut [u8; 16000], from: usize, to: usize)
+    requires { ⌜ (to ≤ from) × (from < 200) ⌝ }
+    ensures { λ r. ⌜ ticketsOf (now (rows .exit)) (now (marks .exit)) ≡ set (ticketsOf (now (rows .entry)) (now (marks .entry))) to (getD (ticketsOf (now (rows .entry)) (now (marks .entry))) from blankTicket) ⌝ }
+{
+    if to == from {
+        return;
+    }
+    known_words(rows);
+    known_marks(marks);
+    let row = read_row(rows, from);
+    write_row(rows, to, row);
+    move_marks(marks, from, to);
+}
+
+// The live tickets without the one at a place: those after it move down.
+pub fn remove_ticket(rows: &mut [u64; 3200], marks: &mut [u8; 16000], live: usize, i: usize)
+    requires { ⌜ (i < live) × (live ≤ 200) ⌝ }
+    ensures { λ r. ⌜ take (live - 1) (ticketsOf (now (rows .exit)) (now (marks .exit))) ≡ without i (take live (ticketsOf (now (rows .entry)) (now (marks .entry)))) ⌝ }
+{
+    let mut k = i + 1;
+    while k < live {
+        move_ticket(rows, marks, k, k - 1);
+        k += 1;
+    }
+}

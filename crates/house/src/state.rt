@@ -1,0 +1,73 @@
+// The house as its caller keeps it: a small struct by value. The live tickets stand beside it, in rows and marks that the caller lends.
+use rules::jackpot::Jackpot;
+ghost use mathlib.Core.Path.{_≡_};
+ghost use mathlib.Core.List.{List};
+ghost use Prim.Native.Nat.{ℕ};
+ghost use Rattle.house.specs.Model.{fresh};
+ghost use Rattle.house.specs.View.{view};
+
+// The figures of the till that no ticket or pool tells. Retained is gained less lost.
+#[repr(C)]
+pub struct Counters {
+    pub taken: u64,
+    pub seeds: u64,
+    pub paid: u64,
+    pub refunded: u64,
+    pub unclaimed: u64,
+    pub gained: u64,
+    pub lost: u64,
+}
+
+// Day, current game and its balls, tickets issued, live tickets, the jackpots and the counters.
+#[repr(C)]
+pub struct House {
+    pub day: u64,
+    pub game: u64,
+    pub balls: [u8; 20],
+    pub drawn: u64,
+    pub issued: u64,
+    pub live: u64,
+    pub six: Jackpot,
+    pub eight: Jackpot,
+    pub counters: Counters,
+}
+
+impl House {
+    // Guarantees of the two jackpots, in cents.
+    pub const GUARANTEE_OF_SIX: u64 = 100_000;
+
+    pub const GUARANTEE_OF_EIGHT: u64 = 1_250_000;
+    // The most live tickets, tickets ever issued, and games ever played.
+    pub const LIVE_LIMIT: u64 = 200;
+
+    pub const TICKET_LIMIT: u64 = 9_999_999;
+
+    pub const GAME_LIMIT: u64 = 9_999_999;
+
+    // A house in which nothing has happened, whatever the lent buffers hold.
+    pub fn fresh() -> House
+        ensures { λ r. ⌜ ((rows marks : List ℕ) → view r rows marks ≡ fresh) ⌝ }
+    {
+        let six = Jackpot::fresh(House::GUARANTEE_OF_SIX);
+        let eight = Jackpot::fresh(House::GUARANTEE_OF_EIGHT);
+        House {
+            day: 0,
+            game: 1,
+            balls: [0u8; 20],
+            drawn: 0,
+            issued: 0,
+            live: 0,
+            six,
+            eight,
+            counters: Counters {
+                taken: 0,
+                seeds: 1_350_000,
+                paid: 0,
+                refunded: 0,
+                unclaimed: 0,
+                gained: 0,
+                lost: 0,
+            },
+        }
+    }
+}
