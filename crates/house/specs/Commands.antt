@@ -13,7 +13,7 @@ use Rattle.rules.specs.Settle.{Settled, settle, jackpotBy}
 use Rattle.rules.specs.declared.jackpot.Jackpot.{Jackpot}
 pub use Rattle.house.specs.declared.answer.Answer.{Answer}
 use Rattle.house.specs.Tickets.{Ticket, termsOf, runsIn, isFinished, isLive, paidStakes, entryOf, kenoToGoBegun, withDue, withStop, withFinishedDay}
-use Rattle.house.specs.Model.{Model, ticketLimit, gameLimit, liveLimit, isDrawing, nextGame}
+use Rattle.house.specs.Model.{Model, Counters, ticketLimit, gameLimit, liveLimit, isDrawing, nextGame, withTickets, withTaken, withPaid, withRefunded, withUnclaimed, withTransferred}
 
 pub data Command : Type 0 where
   open′ : ℕ → Command
@@ -132,7 +132,7 @@ sold o m =
       live = m .live ++ (soldTicket m o ∷ []);
       six = m .six;
       eight = m .eight;
-      counters = record { taken = m .counters .taken + chargeOf o; seeds = m .counters .seeds; paid = m .counters .paid; refunded = m .counters .refunded; unclaimed = m .counters .unclaimed; gained = m .counters .gained; lost = m .counters .lost };
+      counters = withTaken (chargeOf o) (m .counters);
     }
 
 -- Cancel: every undrawn game but the one being drawn is taken off, and its paid stakes go back
@@ -146,16 +146,9 @@ cancelledTicket m t = finishedOn (m .day) (m .game) (withStop t (min (t .stop) (
 
 unfoldable pub cancelled : ℕ → Model → Model
 cancelled n m =
-    record {
-      day = m .day;
-      game = m .game;
-      balls = m .balls;
-      issued = m .issued;
-      live = stillLive (m .game) (changed n (cancelledTicket m) (m .live));
-      six = m .six;
-      eight = m .eight;
-      counters = record { taken = m .counters .taken; seeds = m .counters .seeds; paid = m .counters .paid; refunded = m .counters .refunded + refundOf n m; unclaimed = m .counters .unclaimed; gained = m .counters .gained; lost = m .counters .lost };
-    }
+    withTickets m
+    (stillLive (m .game) (changed n (cancelledTicket m) (m .live)))
+    (withRefunded (refundOf n m) (m .counters))
 
 -- Ball: one number more; the twentieth settles the game
 abbrev pub ballsWith : ℕ → Model → List ℕ
@@ -181,6 +174,19 @@ awarded game (a ∷ awards) (t ∷ ts) =
 abbrev pub stakesDrawn : Model → ℕ
 stakesDrawn m = sum (map (paidStakes (m .game) (m .game + 1)) (runningIn m))
 
+-- seeds, and what the house gains and loses by a drawn game
+abbrev pub afterGame : ℕ → Settled → Counters → Counters
+afterGame stakes s c =
+    record {
+      taken = c .taken;
+      seeds = c .seeds + s .seeds;
+      paid = c .paid;
+      refunded = c .refunded;
+      unclaimed = c .unclaimed;
+      gained = c .gained + stakes + s .repaid;
+      lost = c .lost + s .contributions + s .prizes;
+    }
+
 unfoldable pub gameSettled : ℕ → Model → Model
 gameSettled b m =
     let s = settlement b m in
@@ -192,7 +198,7 @@ gameSettled b m =
       live = stillLive (m .game + 1) (map (finishedOn (m .day) (m .game + 1)) (awarded (m .game) (s .awards) (m .live)));
       six = s .six;
       eight = s .eight;
-      counters = record { taken = m .counters .taken; seeds = m .counters .seeds + s .seeds; paid = m .counters .paid; refunded = m .counters .refunded; unclaimed = m .counters .unclaimed; gained = m .counters .gained + stakesDrawn m + s .repaid; lost = m .counters .lost + s .contributions + s .prizes };
+      counters = afterGame (stakesDrawn m) s (m .counters);
     }
 
 unfoldable pub ballEntered : ℕ → Model → Model
@@ -202,16 +208,9 @@ ballEntered b m =
 -- Claim: everything the ticket won is paid, and it closes
 unfoldable pub claimed : ℕ → Model → Model
 claimed n m =
-    record {
-      day = m .day;
-      game = m .game;
-      balls = m .balls;
-      issued = m .issued;
-      live = stillLive (m .game) (changed n (λ t. withDue t 0) (m .live));
-      six = m .six;
-      eight = m .eight;
-      counters = record { taken = m .counters .taken; seeds = m .counters .seeds; paid = m .counters .paid + ticketAt n (m .live) .due; refunded = m .counters .refunded; unclaimed = m .counters .unclaimed; gained = m .counters .gained; lost = m .counters .lost };
-    }
+    withTickets m
+    (stillLive (m .game) (changed n (λ t. withDue t 0) (m .live)))
+    (withPaid (ticketAt n (m .live) .due) (m .counters))
 
 -- Expire: live finished tickets whose finishing day + 365 is less than today
 unfoldable pub isExpired : Model → Ticket → Bool
@@ -222,16 +221,9 @@ expiring m = keep (isExpired m) (m .live)
 
 unfoldable pub expired : Model → Model
 expired m =
-    record {
-      day = m .day;
-      game = m .game;
-      balls = m .balls;
-      issued = m .issued;
-      live = stillLive (m .game) (map (λ t. cond (isExpired m t) (withDue t 0) t) (m .live));
-      six = m .six;
-      eight = m .eight;
-      counters = record { taken = m .counters .taken; seeds = m .counters .seeds; paid = m .counters .paid; refunded = m .counters .refunded; unclaimed = m .counters .unclaimed + sum (map (λ t. t .due) (expiring m)); gained = m .counters .gained; lost = m .counters .lost };
-    }
+    withTickets m
+    (stillLive (m .game) (map (λ t. cond (isExpired m t) (withDue t 0) t) (m .live)))
+    (withUnclaimed (sum (map (λ t. t .due) (expiring m))) (m .counters))
 
 -- Transfer: unclaimed money into a primary
 abbrev pub withPrimary : Jackpot → ℕ → Jackpot
@@ -250,7 +242,7 @@ transferred j cents m =
       live = m .live;
       six = cond (eqb j 6) (withPrimary (m .six) (m .six .primary + cents)) (m .six);
       eight = cond (eqb j 6) (m .eight) (withPrimary (m .eight) (m .eight .primary + cents));
-      counters = record { taken = m .counters .taken; seeds = m .counters .seeds; paid = m .counters .paid; refunded = m .counters .refunded; unclaimed = m .counters .unclaimed - cents; gained = m .counters .gained; lost = m .counters .lost };
+      counters = withTransferred cents (m .counters);
     }
 
 -- ---- the answer's number and cents

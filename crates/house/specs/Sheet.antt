@@ -43,8 +43,24 @@ freshSheet =
       six = freshJackpot guaranteeOfSix;
       eight = freshJackpot guaranteeOfEight;
       lines = [];
-      figures = record { taken = 0; seeds = 1350000; paid = 0; refunded = 0; owed = 0; held = 0; unclaimed = 0; pooled = 1350000; gained = 0; lost = 0 };
+      figures = record {
+        taken = 0;
+        seeds = 1350000;
+        paid = 0;
+        refunded = 0;
+        owed = 0;
+        held = 0;
+        unclaimed = 0;
+        pooled = 1350000;
+        gained = 0;
+        lost = 0;
+      };
     }
+
+-- the same sheet with other lines and figures
+abbrev pub sheetWith : Sheet → List Line → Figures → Sheet
+sheetWith s lines figures =
+    record { today = s .today; game = s .game; balls = s .balls; six = s .six; eight = s .eight; lines = lines; figures = figures }
 
 -- ---- lines
 
@@ -101,15 +117,20 @@ newLine o s =
 unfoldable pub sheetSell : Operands → Sheet → Sheet
 sheetSell o s =
     let f = s .figures in
-    record {
-      today = s .today;
-      game = s .game;
-      balls = s .balls;
-      six = s .six;
-      eight = s .eight;
-      lines = s .lines ++ (newLine o s ∷ []);
-      figures = record { taken = f .taken + chargeOf o; seeds = f .seeds; paid = f .paid; refunded = f .refunded; owed = f .owed; held = f .held + chargeOf o; unclaimed = f .unclaimed; pooled = f .pooled; gained = f .gained; lost = f .lost };
-    }
+    sheetWith s
+    (s .lines ++ (newLine o s ∷ []))
+    (record {
+      taken = f .taken + chargeOf o;
+      seeds = f .seeds;
+      paid = f .paid;
+      refunded = f .refunded;
+      owed = f .owed;
+      held = f .held + chargeOf o;
+      unclaimed = f .unclaimed;
+      pooled = f .pooled;
+      gained = f .gained;
+      lost = f .lost;
+    })
 
 -- "Cancel takes off the line's games left, but not the current one when drawing. Their paid stakes go from held to refunded."
 abbrev pub stays : Sheet → ℕ → Bool
@@ -122,15 +143,20 @@ unfoldable pub sheetCancel : ℕ → Sheet → Sheet
 sheetCancel n s =
     let f = s .figures in
     let back = totalAt n (takenOff s) (s .lines) in
-    record {
-      today = s .today;
-      game = s .game;
-      balls = s .balls;
-      six = s .six;
-      eight = s .eight;
-      lines = onLine n (λ l. leftWith (s .today) (keep (stays s) (l .left)) l) (s .lines);
-      figures = record { taken = f .taken; seeds = f .seeds; paid = f .paid; refunded = f .refunded + back; owed = f .owed; held = f .held - back; unclaimed = f .unclaimed; pooled = f .pooled; gained = f .gained; lost = f .lost };
-    }
+    sheetWith s
+    (onLine n (λ l. leftWith (s .today) (keep (stays s) (l .left)) l) (s .lines))
+    (record {
+      taken = f .taken;
+      seeds = f .seeds;
+      paid = f .paid;
+      refunded = f .refunded + back;
+      owed = f .owed;
+      held = f .held - back;
+      unclaimed = f .unclaimed;
+      pooled = f .pooled;
+      gained = f .gained;
+      lost = f .lost;
+    })
 
 -- "Ball adds the number. The twentieth settles every line with that game left, by Prizes and Jackpots."
 abbrev pub playing : Sheet → List Line
@@ -163,7 +189,18 @@ sheetSettle b s =
       six = r .six;
       eight = r .eight;
       lines = settleLines (s .today) (s .game) (r .awards) (s .lines);
-      figures = record { taken = f .taken; seeds = f .seeds + r .seeds; paid = f .paid; refunded = f .refunded; owed = f .owed + (r .prizes + r .shares); held = f .held - stakes; unclaimed = f .unclaimed; pooled = f .pooled + (r .contributions + r .seeds) - (r .shares + r .repaid); gained = f .gained + (stakes + r .repaid); lost = f .lost + (r .contributions + r .prizes) };
+      figures = record {
+        taken = f .taken;
+        seeds = f .seeds + r .seeds;
+        paid = f .paid;
+        refunded = f .refunded;
+        owed = f .owed + (r .prizes + r .shares);
+        held = f .held - stakes;
+        unclaimed = f .unclaimed;
+        pooled = f .pooled + (r .contributions + r .seeds) - (r .shares + r .repaid);
+        gained = f .gained + (stakes + r .repaid);
+        lost = f .lost + (r .contributions + r .prizes);
+      };
     }
 
 abbrev pub twentieth : Sheet → Bool
@@ -179,15 +216,20 @@ unfoldable pub sheetClaim : ℕ → Sheet → Sheet
 sheetClaim n s =
     let f = s .figures in
     let due = totalAt n (λ l. l .due) (s .lines) in
-    record {
-      today = s .today;
-      game = s .game;
-      balls = s .balls;
-      six = s .six;
-      eight = s .eight;
-      lines = onLine n (dueOf 0) (s .lines);
-      figures = record { taken = f .taken; seeds = f .seeds; paid = f .paid + due; refunded = f .refunded; owed = f .owed - due; held = f .held; unclaimed = f .unclaimed; pooled = f .pooled; gained = f .gained; lost = f .lost };
-    }
+    sheetWith s
+    (onLine n (dueOf 0) (s .lines))
+    (record {
+      taken = f .taken;
+      seeds = f .seeds;
+      paid = f .paid + due;
+      refunded = f .refunded;
+      owed = f .owed - due;
+      held = f .held;
+      unclaimed = f .unclaimed;
+      pooled = f .pooled;
+      gained = f .gained;
+      lost = f .lost;
+    })
 
 -- "Expire moves, from owed to unclaimed, each due above 0 of a line with no game left and finishing day + 365 less than today."
 unfoldable pub tooLate : Sheet → Line → Bool
@@ -199,15 +241,20 @@ lateDues s = map (λ l. l .due) (keep (tooLate s) (s .lines))
 unfoldable pub sheetExpire : Sheet → Sheet
 sheetExpire s =
     let f = s .figures in
-    record {
-      today = s .today;
-      game = s .game;
-      balls = s .balls;
-      six = s .six;
-      eight = s .eight;
-      lines = map (λ l. cond (tooLate s l) (dueOf 0 l) l) (s .lines);
-      figures = record { taken = f .taken; seeds = f .seeds; paid = f .paid; refunded = f .refunded; owed = f .owed - sum (lateDues s); held = f .held; unclaimed = f .unclaimed + sum (lateDues s); pooled = f .pooled; gained = f .gained; lost = f .lost };
-    }
+    sheetWith s
+    (map (λ l. cond (tooLate s l) (dueOf 0 l) l) (s .lines))
+    (record {
+      taken = f .taken;
+      seeds = f .seeds;
+      paid = f .paid;
+      refunded = f .refunded;
+      owed = f .owed - sum (lateDues s);
+      held = f .held;
+      unclaimed = f .unclaimed + sum (lateDues s);
+      pooled = f .pooled;
+      gained = f .gained;
+      lost = f .lost;
+    })
 
 -- "Transfer moves the cents from unclaimed to that primary and to pooled."
 abbrev pub primaryWith : ℕ → Jackpot → Jackpot
@@ -224,7 +271,18 @@ sheetTransfer j cents s =
       six = cond (eqb j 6) (primaryWith cents (s .six)) (s .six);
       eight = cond (eqb j 8) (primaryWith cents (s .eight)) (s .eight);
       lines = s .lines;
-      figures = record { taken = f .taken; seeds = f .seeds; paid = f .paid; refunded = f .refunded; owed = f .owed; held = f .held; unclaimed = f .unclaimed - cents; pooled = f .pooled + cents; gained = f .gained; lost = f .lost };
+      figures = record {
+        taken = f .taken;
+        seeds = f .seeds;
+        paid = f .paid;
+        refunded = f .refunded;
+        owed = f .owed;
+        held = f .held;
+        unclaimed = f .unclaimed - cents;
+        pooled = f .pooled + cents;
+        gained = f .gained;
+        lost = f .lost;
+      };
     }
 
 -- ---- a command and its code
