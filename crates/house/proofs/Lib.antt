@@ -21,4 +21,11 @@ pub mod RowLists
 pub mod RowLaws
 pub mod RisingNumbers
 pub mod ReachedHouses
+pub mod ViewLaws
+pub mod FoundTickets
+pub mod SellLaws
+pub mod ExpireLaws
+pub mod TillLaws
+pub mod ListingLaws
+pub mod CallsBalanced
 pub mod Examples

@@ -89,7 +89,7 @@ marks-eighty : (g : ℕ) (marks : List ℕ) → marksFit g marks ≡ true → le
 unfolding marksFit
 marks-eighty g marks e = eqb-true _ _ (and-true _ _ (and-true _ _ e .0) .0)
 
-operand-numbers : (o : Operands) → All (λ row. row .1 ≡ 0 → ⊥) (operandRows o)
+pub operand-numbers : (o : Operands) → All (λ row. row .1 ≡ 0 → ⊥) (operandRows o)
 unfolding operandRows
 operand-numbers o = omega arith
 
@@ -170,7 +170,7 @@ open-accepted m d e =
     record { later = leb-false _ _ (p .0); waiting = p .1 .0 }
 
 -- Sell's rows below those of its operands
-abbrev saleRows : Model → Operands → List (Bool × ℕ)
+abbrev pub saleRows : Model → Operands → List (Bool × ℕ)
 saleRows m o =
     (leb liveLimit (length (m .live)), 16)
     ∷ (leb ticketLimit (m .issued) || ltb (gameLimit + 1) (nextGame m + o .games), 17)

@@ -23,7 +23,7 @@ Rising [] = Unit {0}
 Rising (t ∷ ts) = All (λ u. t .number < u .number) ts × Rising ts
 
 module _ {A : Type 0} (P : A → Type 0) where
-  all-at : (xs : List A) → All P xs → (k : ℕ) (d : A) → k < length xs → P (getD xs k d)
+  pub all-at : (xs : List A) → All P xs → (k : ℕ) (d : A) → k < length xs → P (getD xs k d)
   all-at [] all k d h = absurd (not-suc-le-zero h)
   all-at (x ∷ xs) (p, all) zero d h = p
   all-at (x ∷ xs) (p, all) (suc k) d h = all-at xs all k d (le-of-suc-le-suc h)

@@ -234,7 +234,7 @@ module _ (m : Model) (n : ℕ) (orderly : Orderly m) (here : hasTicket n (houseO
 
 -- ---- Sell
 
-paid-games-within : (games : ℕ) → paidGames games ≤ games
+pub paid-games-within : (games : ℕ) → paidGames games ≤ games
 unfolding paidGames
 paid-games-within games = go (ltb games 50) (ltb games 100)
   where

@@ -160,7 +160,7 @@ pub reached-booked : (m : Model) → Reached m → (log : Log) × Booked m log
 reached-booked m r = (run (r .commands) .log, subst (λ (h : Model). Booked h (run (r .commands) .log)) (r .comes) (booked (r .commands)))
 
 -- a command keeps a house reached
-reached-more : (cs : List Command) (s : State) (c : Command) → runFrom s (cs ++ (c ∷ [])) .house ≡ step (runFrom s cs .house) c .house
+pub reached-more : (cs : List Command) (s : State) (c : Command) → runFrom s (cs ++ (c ∷ [])) .house ≡ step (runFrom s cs .house) c .house
 unfolding runFrom next
 reached-more [] s c = refl
 reached-more (k ∷ cs) s c = reached-more cs (next s k) c

@@ -7,3 +7,6 @@ pub mod Claims
 pub mod Balance
 pub mod View
 pub mod Parts
+pub mod Steps
+pub mod Listing
+pub mod Calls

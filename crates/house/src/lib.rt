@@ -1,4 +1,13 @@
 // The house: tickets, the commands, the till and the live list.
 pub mod answer;
+pub mod cancel;
+pub mod claim;
+pub mod expire;
+pub mod live_list;
+pub mod lookup;
+pub mod open;
 pub mod rows;
+pub mod sell;
 pub mod state;
+pub mod till;
+pub mod transfer;

@@ -5,6 +5,7 @@ ghost use Rattle.rules.specs.Bounds.{Roomy, Sharing};
 ghost use Rattle.rules.specs.Jackpots.{freshJackpot, contributed, shareOf, seedOf, reseeded, repaidOf, repaid};
 
 // Three pools and the seed debt, in cents.
+#[repr(C)]
 pub struct Jackpot {
     pub primary: u64,
     pub secondary: u64,

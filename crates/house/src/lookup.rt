@@ -1,0 +1,49 @@
+// A ticket by its number, and whether it is finished: what Cancel and Claim share.
+use crate::rows::place_of;
+use crate::state::House;
+ghost use mathlib.Core.Path.{_≡_};
+ghost use mathlib.Core.List.{List};
+ghost use Prim.Native.Nat.{ℕ, _-_, _≤_, max};
+ghost use lib.Dec.{eqb};
+ghost use Rattle.house.specs.View.{view, placeOf};
+ghost use Rattle.house.specs.Commands.{lookupRows};
+ghost use Rattle.rules.specs.Checks.{firstMet};
+
+// The refusal, or 0 and the ticket's place among the live ones.
+pub struct Lookup {
+    pub code: u8,
+    pub place: usize,
+}
+
+pub fn look_up(house: House, rows: &[u64; 3200], ticket: u32) -> Lookup
+    requires { ⌜ house .live ≤ 200 ⌝ }
+    ensures code { λ r. ⌜ ((marks : List ℕ) → r .code ≡ firstMet (lookupRows ticket (view house (now (rows .entry)) marks))) ⌝ }
+    ensures place { λ r. ⌜ ((marks : List ℕ) → r .code ≡ 0 → r .place ≡ placeOf ticket (view house (now (rows .entry)) marks .live)) ⌝ }
+{
+    if house.day == 0 {
+        return Lookup { code: 4, place: 0 };
+    }
+    let number = ticket as u64;
+    if number == 0 {
+        return Lookup { code: 18, place: 0 };
+    }
+    if house.issued < number {
+        return Lookup { code: 18, place: 0 };
+    }
+    let live = house.live as usize;
+    let place = place_of(rows, live, number);
+    if live <= place {
+        return Lookup { code: 19, place: 0 };
+    }
+    Lookup { code: 0, place }
+}
+
+// Whether a ticket of the games from `first` up to `stop` has none left where the given game is the current one.
+pub fn is_finished(game: u64, first: u64, stop: u64) -> bool
+    ensures { λ r. ⌜ r ≡ eqb (stop - max first game) 0 ⌝ }
+{
+    if stop <= game {
+        return true;
+    }
+    stop <= first
+}
