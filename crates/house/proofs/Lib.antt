@@ -27,5 +27,9 @@ pub mod SellLaws
 pub mod ExpireLaws
 pub mod TillLaws
 pub mod ListingLaws
+pub mod SpreadLaws
+pub mod PassLaws
+pub mod PassSteps
+pub mod SharingLaws
 pub mod CallsBalanced
 pub mod Examples

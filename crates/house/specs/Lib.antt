@@ -9,4 +9,7 @@ pub mod View
 pub mod Parts
 pub mod Steps
 pub mod Listing
+pub mod Settling
+pub mod Passing
+pub mod Sharing
 pub mod Calls
