@@ -31,5 +31,7 @@ pub mod SpreadLaws
 pub mod PassLaws
 pub mod PassSteps
 pub mod SharingLaws
+pub mod BallLaws
+pub mod ClosingLaws
 pub mod CallsBalanced
 pub mod Examples

@@ -61,6 +61,10 @@ module _ (game : ℕ) (t : Ticket) where
       let once : stakes * (min (game + 1) (t .free) - min game (t .free)) ≤ stakes * 1 = mul-le-mul-left stakes (omega arith) in
       omega (arith, once, mul-one stakes)
 
+none-by : (b : Bool) → cond {A = ℕ} b 0 0 ≡ 0
+none-by true = refl
+none-by false = refl
+
 module _ (words : List ℕ) (game j i : ℕ) where
   abbrev t : Ticket
   t = ticketIn words [] i
@@ -68,10 +72,6 @@ module _ (words : List ℕ) (game j i : ℕ) where
   nothing-by : (b : Bool) → cond (b && false) (paidStakes game (game + 1) t) 0 ≡ 0
   nothing-by true = refl
   nothing-by false = refl
-
-  none-by : (b : Bool) → cond {A = ℕ} b 0 0 ≡ 0
-  none-by true = refl
-  none-by false = refl
 
   pub stakes-of-other : (t .jackpot ≡ j → ⊥) → stakesAt words game j i ≡ 0
   unfolding stakesAt
@@ -398,42 +398,44 @@ module _ (game : ℕ) where
             let nothing : 0 * shareOf p s (t .operands .stake) + min odd 0 ≡ 0 = omega (arith, zero-mul (shareOf p s (t .operands .stake))) in
             cc (nothing, sub-zero odd, rest odd, spread-rests game (sharesFrom odd p s (winnersOf ts)) t ts e)
 
-module _ (game j : ℕ) (draw : Draw) (ts : List Ticket) where
-  pub winning-same : winningStakes (map (winnerIn game j draw) ts) ≡ winningStakes (winnersOf game j draw ts)
-  unfolding winningStakes
-  winning-same = winners-sum game j draw winningStake zero-mul ts
-
-  odd-same : (p s : ℕ) → oddCents p s (map (winnerIn game j draw) ts) ≡ oddCents p s (winnersOf game j draw ts)
-  unfolding oddCents
-  odd-same p s =
-      ap (λ n. p - n) (winners-sum game j draw (λ w. w .count * shareOf p s (w .stake)) (λ stake. zero-mul (shareOf p s stake)) ts)
-
-  zeros-spread : (us : List Ticket) → map (λ w. 0) (map (winnerIn game j draw) us) ≡ spread game (map (λ w. 0) (winnersOf game j draw us)) us
-  zeros-spread us =
-      same us
-      ∙ sym (ap (λ (figures : List ℕ). spread game figures us) (map-map (λ w. 0) (winnerOf j draw) (entriesOf game us)) ∙ spread-entries game (λ e. 0) us)
+module _ (game j : ℕ) (draw : Draw) where
+  zeros-spread : (ts : List Ticket) → map (λ w. 0) (map (winnerIn game j draw) ts) ≡ spread game (map (λ w. 0) (winnersOf game j draw ts)) ts
+  zeros-spread ts =
+      same ts
+      ∙ sym (ap (λ (figures : List ℕ). spread game figures ts) (map-map (λ w. 0) (winnerOf j draw) (entriesOf game ts)) ∙ spread-entries game (λ e. 0) ts)
     where
       same : (us : List Ticket) → map (λ w. 0) (map (winnerIn game j draw) us) ≡ map (λ t. cond {A = ℕ} (runsIn game t) 0 0) us
       same [] = refl
-      same (t ∷ us) = cc (none (runsIn game t), same us)
-        where
-          none : (b : Bool) → cond {A = ℕ} b 0 0 ≡ 0
-          none true = refl
-          none false = refl
+      same (t ∷ us) = cc (none-by (runsIn game t), same us)
 
-  -- what each ticket gets of the primary, won or not
-  pub jackpot-shares-spread : (p : ℕ)
-      → jackpotShares p (map (winnerIn game j draw) ts) ≡ spread game (jackpotShares p (winnersOf game j draw ts)) ts
-  unfolding jackpotShares jackpotWon
-  jackpot-shares-spread p =
-      rw (winning-same, odd-same p (winningStakes (winnersOf game j draw ts)))
-      (go (ltb 0 (winningStakes (winnersOf game j draw ts))))
-    where
-      go : (won : Bool)
-          → cond won (sharesFrom (oddCents p (winningStakes (winnersOf game j draw ts)) (winnersOf game j draw ts)) p (winningStakes (winnersOf game j draw ts)) (map (winnerIn game j draw) ts)) (map (λ w. 0) (map (winnerIn game j draw) ts))
-          ≡ spread game (cond won (sharesFrom (oddCents p (winningStakes (winnersOf game j draw ts)) (winnersOf game j draw ts)) p (winningStakes (winnersOf game j draw ts)) (winnersOf game j draw ts)) (map (λ w. 0) (winnersOf game j draw ts))) ts
-      go true = shares-spread game j draw (oddCents p (winningStakes (winnersOf game j draw ts)) (winnersOf game j draw ts)) p (winningStakes (winnersOf game j draw ts)) ts
-      go false = zeros-spread ts
+  module _ (ts : List Ticket) where
+    abbrev all : List Winner
+    all = map (winnerIn game j draw) ts
+
+    abbrev running : List Winner
+    running = winnersOf game j draw ts
+
+    pub winning-same : winningStakes all ≡ winningStakes running
+    unfolding winningStakes
+    winning-same = winners-sum game j draw winningStake zero-mul ts
+
+    odd-same : (p s : ℕ) → oddCents p s all ≡ oddCents p s running
+    unfolding oddCents
+    odd-same p s =
+        ap (λ n. p - n) (winners-sum game j draw (λ w. w .count * shareOf p s (w .stake)) (λ stake. zero-mul (shareOf p s stake)) ts)
+
+    -- what each ticket gets of the primary, won or not
+    pub jackpot-shares-spread : (p : ℕ) → jackpotShares p all ≡ spread game (jackpotShares p running) ts
+    unfolding jackpotShares jackpotWon
+    jackpot-shares-spread p =
+        rw (winning-same, odd-same p (winningStakes running))
+        (go (ltb 0 (winningStakes running)) (winningStakes running) (oddCents p (winningStakes running) running))
+      where
+        go : (won : Bool) (s odd : ℕ)
+            → cond won (sharesFrom odd p s all) (map (λ w. 0) all)
+            ≡ spread game (cond won (sharesFrom odd p s running) (map (λ w. 0) running)) ts
+        go true s odd = shares-spread game j draw odd p s ts
+        go false s odd = zeros-spread ts
 
 -- ---- the rows of a reached house, with its full matches in a draw
 

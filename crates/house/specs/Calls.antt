@@ -6,7 +6,6 @@ use Prim.Native.Nat.{ℕ}
 use Rattle.house.specs.Model.{fresh}
 use Rattle.house.specs.Commands.{Command, Answer}
 use Rattle.house.specs.Till.{tillOf}
-use Rattle.house.specs.Sheet.{sheetNumber, sheetCents}
 use Rattle.house.specs.Claims.{sheetOf}
 use Rattle.house.specs.Balance.{run, answerAfter, TillBalances}
 use Rattle.house.specs.View.{view}

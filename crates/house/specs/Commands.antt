@@ -1,6 +1,6 @@
 -- The seven commands: "Checked in this order [..] Top to bottom; the first met is given, and only then. A refusal answers its number, 0, 0 and
 -- changes no house". Each command has its rows of the refusal table, what it does and what it answers; `step` puts them together.
-use Prim.Native.Nat.{ℕ, _+_, _-_, min, max}
+use Prim.Native.Nat.{ℕ, _+_, min, max}
 use mathlib.Core.Bool.{Bool, cond, not, _&&_, _||_}
 use mathlib.Core.List.{List, [], _∷_, _++_, map}
 use lib.Dec.{ltb, leb, eqb}

@@ -10,6 +10,8 @@ pub mod Parts
 pub mod Steps
 pub mod Listing
 pub mod Settling
+pub mod Closing
 pub mod Passing
 pub mod Sharing
 pub mod Calls
+pub mod Meant

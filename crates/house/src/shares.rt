@@ -145,7 +145,7 @@ fn add_shares(
     paid: &mut [u64; 200],
 )
     requires won { ⌜ Shareable (now rows) (now full) jackpot live primary stakes ⌝ }
-    requires room { ⌜ ((i : ℕ) → getD (now paid) i 0 < 2 ^ 63) ⌝ }
+    requires room { ⌜ ((i : ℕ) → i < live → getD (now paid) i 0 < 2 ^ 63) ⌝ }
     ensures { λ r. ⌜ take live (now (paid .exit)) ≡ zipWith _+_ (take live (now (paid .entry))) (sharesFrom odd primary stakes (winnersIn (now (rows .entry)) (now (full .entry)) jackpot live)) ⌝ }
 {
     let mut left = odd;
@@ -173,7 +173,7 @@ fn share_out(
     requires entered { ⌜ Entered (now rows) (now full) jackpot live ⌝ }
     requires total { ⌜ stakes ≡ winningStakes (winnersIn (now rows) (now full) jackpot live) ⌝ }
     requires pool { ⌜ primary + 255 < 2 ^ 63 ⌝ }
-    requires room { ⌜ ((i : ℕ) → getD (now paid) i 0 < 2 ^ 63) ⌝ }
+    requires room { ⌜ ((i : ℕ) → i < live → getD (now paid) i 0 < 2 ^ 63) ⌝ }
     ensures together { λ r. ⌜ r ≡ sum (jackpotShares primary (winnersIn (now (rows .entry)) (now (full .entry)) jackpot live)) ⌝ }
     ensures each { λ r. ⌜ take live (now (paid .exit)) ≡ zipWith _+_ (take live (now (paid .entry))) (jackpotShares primary (winnersIn (now (rows .entry)) (now (full .entry)) jackpot live)) ⌝ }
 {
@@ -206,7 +206,7 @@ pub fn settle_jackpot(
     requires number { ⌜ (jackpot ≡ 6) ⊎ (jackpot ≡ 8) ⌝ }
     requires house { ⌜ Matched house (now rows) (now full) ⌝ }
     requires pools { ⌜ (before .primary < 2 ^ 62) × (before .secondary < 2 ^ 62) × (before .reimbursement < 2 ^ 62) × (before .debt < 2 ^ 62) ⌝ }
-    requires room { ⌜ ((i : ℕ) → getD (now paid) i 0 < 2 ^ 63) ⌝ }
+    requires room { ⌜ ((i : ℕ) → i < house .live → getD (now paid) i 0 < 2 ^ 63) ⌝ }
     ensures { λ r. ⌜ ((marks : List ℕ) (draw : Draw)
         → Reached (view house (now (rows .entry)) marks)
         → take (house .live) (now (full .entry)) ≡ spread (house .game) (fullIn (house .game) draw (view house (now (rows .entry)) marks .live)) (view house (now (rows .entry)) marks .live)

@@ -83,7 +83,7 @@ add-paid c =
       row-share (c .before),
       share-most (args .rows .now) (args .full .now) (args .jackpot) (args .live) (args .primary) (args .stakes) (start .pre .0) (turn .i) (turn .left) (c .before .before .before .before .loop-test .taken),
       given-next (args .rows .now) (args .full .now) (args .jackpot) (args .odd) (args .primary) (args .stakes) (args .paid .now) (turn .paid) (turn .i) (turn .inv .2),
-      start .pre .1 (turn .i),
+      start .pre .1 (turn .i) (c .before .before .before .before .loop-test .taken),
       start .pre .0 .pool,
     )
 
