@@ -22,16 +22,5 @@ pub mod RowLaws
 pub mod RisingNumbers
 pub mod ReachedHouses
 pub mod ViewLaws
-pub mod FoundTickets
-pub mod SellLaws
-pub mod ExpireLaws
-pub mod TillLaws
-pub mod ListingLaws
-pub mod SpreadLaws
-pub mod PassLaws
-pub mod PassSteps
-pub mod SharingLaws
-pub mod BallLaws
-pub mod ClosingLaws
 pub mod CallsBalanced
 pub mod Examples

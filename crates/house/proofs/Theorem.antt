@@ -46,7 +46,7 @@ booked-fresh =
     }
 
 -- an accepted command answers with the code 0
-reply-code : (m : Model) (c : Command) → reply m c .code ≡ 0
+pub reply-code : (m : Model) (c : Command) → reply m c .code ≡ 0
 unfolding reply
 reply-code m (open′ d) = refl
 reply-code m (sell o) = refl

@@ -1,36 +1,28 @@
 -- Laws of the view: how a command is shown to be carried out, and what the view's balls and live tickets are in the struct and the rows.
-use Prim.Native.Nat.{ℕ, _≤_, _<_}
+use Prim.Native.Nat.{ℕ, _+_, _≤_, _<_}
 use native.Mathlib.Omega.{arith}
 use mathlib.Core.Path.{_≡_, refl, sym, ap, _∙_}
-use mathlib.Core.Bool.{not}
+use mathlib.Core.Bool.{cond, not}
 use mathlib.Core.List.{List, map}
 use lib.Dec.{eqb, ltb}
 use lib.ListN.{length, getD, take}
 use lib.Seq.{ext-getD}
+use borrow.Author.Tests.{eq-eqb, ne-eqb}
 use Rattle.rules.specs.Lists.{below}
 use Rattle.house.specs.Tickets.{Ticket}
-use Rattle.house.specs.Model.{Model, isDrawing}
-use Rattle.house.specs.Commands.{Command, open′, sell, cancel, ball, claim, expire, transfer, Answer, blankTicket, ticketAt, hasTicket, codeOf, act, reply}
+use Rattle.house.specs.Model.{isDrawing, nextGame}
+use Rattle.house.specs.Commands.{Command, Answer, blankTicket, ticketAt, hasTicket, codeOf, act, reply}
 use Rattle.house.specs.View.{ticketIn, ticketsOf, placeOf, view}
 use Rattle.house.specs.Parts.{Carried}
 use Rattle.house.specs.declared.state.House.{House}
 use Rattle.house.proofs.Ledger.{withLive}
 use Rattle.house.proofs.Reliance.{refused-unchanged, accepted-done}
+use Rattle.house.proofs.Theorem.{reply-code}
 use Rattle.house.proofs.ReachedHouses.{Sure}
 use Rattle.house.proofs.RowLists.{length-table, getD-table}
 use Rattle.house.proofs.RowLaws.{place-has, place-ticket, live-at, live-length}
 
 -- ---- a command carried out
-
-reply-code : (m : Model) (c : Command) → reply m c .code ≡ 0
-unfolding reply
-reply-code m (open′ d) = refl
-reply-code m (sell o) = refl
-reply-code m (cancel n) = refl
-reply-code m (ball b) = refl
-reply-code m (claim n) = refl
-reply-code m expire = refl
-reply-code m (transfer j cents) = refl
 
 module _ (h : House) (words marks : List ℕ) (c : Command) where
   -- a refusal by the table's number
@@ -73,6 +65,16 @@ module _ (h : House) (words marks : List ℕ) where
 
   pub view-drawing : isDrawing (view h words marks) ≡ not (eqb (h .drawn) 0)
   view-drawing = ap (λ n. not (eqb n 0)) balls-count
+
+  pub next-waiting : h .drawn ≡ 0 → nextGame (view h words marks) ≡ h .game
+  unfolding view
+  next-waiting e =
+      ap (λ b. cond b (h .game + 1) (h .game)) (view-drawing ∙ ap not (eq-eqb (h .drawn) 0 e))
+
+  pub next-drawing : (h .drawn ≡ 0 → ⊥) → nextGame (view h words marks) ≡ h .game + 1
+  unfolding view
+  next-drawing e =
+      ap (λ b. cond b (h .game + 1) (h .game)) (view-drawing ∙ ap not (ne-eqb (h .drawn) 0 e))
 
   pub live-count : length (view h words marks .live) ≡ h .live
   unfolding view

@@ -7,11 +7,4 @@ pub mod Claims
 pub mod Balance
 pub mod View
 pub mod Parts
-pub mod Steps
-pub mod Listing
-pub mod Settling
-pub mod Closing
-pub mod Passing
-pub mod Sharing
 pub mod Calls
-pub mod Meant

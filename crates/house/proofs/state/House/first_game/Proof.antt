@@ -1,7 +1,7 @@
 -- `house::state::House::first_game` meets its contract: a house is drawing just where it has drawn balls.
 use mathlib.Core.Path.{sym}
 use borrow.Author.Needs.{needs}
-use Rattle.house.proofs.SellLaws.{next-waiting, next-drawing}
+use Rattle.house.proofs.ViewLaws.{next-waiting, next-drawing}
 use Rattle.house.proofs.state.House.first_game.Statement.{statement}
 use Rattle.house.proofs.state.House.first_game.Tie as tie
 

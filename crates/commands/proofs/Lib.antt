@@ -1,0 +1,2 @@
+pub mod TillLaws
+pub mod ListingLaws

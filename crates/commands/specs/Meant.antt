@@ -1,0 +1,16 @@
+-- "one that takes a decoded command": which command of the model a decoded one is. Sell's marks stand beside it.
+use Prim.Native.Nat.{ℕ}
+use mathlib.Core.List.{List}
+use Rattle.house.specs.Commands.{open′, sell, cancel, ball, claim, expire, transfer}
+use Rattle.commands.specs.declared.command.Command.{Command}
+use Rattle.commands.specs.declared.command.Command.the-variants.{Open, Sell, Cancel, Ball, Claim, Expire, Transfer}
+
+abbrev pub meant : Command → List ℕ → Rattle.house.specs.Commands.Command
+meant (Open day) marks = open′ day
+meant (Sell s) marks =
+    sell (record { kind = s .kind; games = s .games; stake = s .stake; groups = s .groups; types = s .types; marks = marks })
+meant (Cancel ticket) marks = cancel ticket
+meant (Ball number) marks = ball number
+meant (Claim ticket) marks = claim ticket
+meant Expire marks = expire
+meant (Transfer jackpot cents) marks = transfer jackpot cents

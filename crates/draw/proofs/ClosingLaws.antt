@@ -1,0 +1,249 @@
+-- Laws of a settled game's last step: tables by place, a table's sum, a ticket that closes or moves down, and what the places of a table that
+-- hold the spread awards make of the live tickets.
+use Prim.Native.Nat.{ℕ, zero, suc, _+_, _-_, _*_, _≤_, _<_, min, max}
+use mathlib.Core.Path.{_≡_, refl, sym, ap, ap₂, _∙_, subst}
+use mathlib.Core.Bool.{Bool, true, false, cond, not, _&&_}
+use mathlib.Core.List.{List, [], _∷_, _++_, map, zipWith, append-nil, map-map}
+use native.Mathlib.Nat.{add-zero, mul-one}
+use native.Mathlib.Numerals.{add-one}
+use native.Mathlib.Omega.{arith}
+use lib.Dec.{eqb}
+use lib.ListN.{length, getD, set, take, drop, length-take, take-append-drop}
+use lib.Seq.{ext-getD, getD-set-same, getD-take, getD-drop, take-take, take-suc, drop-set-lt, drop-drop, length-take-le}
+use borrow.Author.Tests.{lt-leb, le-leb, lt-ltb, le-ltb, eq-eqb, ne-eqb}
+use Rattle.rules.specs.Lists.{sum, below, keep}
+use Rattle.rules.specs.Price.{charge}
+use Rattle.house.specs.Tickets.{Ticket, runsIn, gamesLeft, isFinished, isLive, paidStakes, withDue, withFinishedDay}
+use Rattle.house.specs.Commands.{blankTicket, stillLive, finishedOn, awarded}
+use Rattle.house.specs.View.{marksAt, ticketIn, ticketsOf}
+use Rattle.draw.specs.Settling.{spread}
+use Rattle.draw.specs.Closing.{paidTicket}
+use Rattle.house.proofs.ListLaws.{keep-append, map-append}
+use Rattle.house.proofs.MoneyLaws.{sum-append}
+use Rattle.house.proofs.RowLists.{length-table, getD-table}
+use Rattle.house.proofs.RowLaws.{tickets-at, tickets-length, take-sold}
+use Rattle.draw.proofs.SpreadLaws.{length-spread, sum-spread, awarded-spread}
+
+-- ---- tables by place
+
+module _ {A : Type 0} where
+  pub table-more : (f : ℕ → A) (n : ℕ) → map f (below (n + 1)) ≡ map f (below n) ++ (f n ∷ [])
+  unfolding below
+  table-more f n = ap (λ k. map f (below k)) (add-one n) ∙ map-append f (below n) (n ∷ [])
+
+  pub tables-alike : (f g : ℕ → A) (n : ℕ) → ((i : ℕ) → i < n → f i ≡ g i) → map f (below n) ≡ map g (below n)
+  unfolding below
+  tables-alike f g zero same = refl
+  tables-alike f g (suc n) same =
+      map-append f (below n) (n ∷ [])
+      ∙ ap₂ (λ xs x. xs ++ (x ∷ [])) (tables-alike f g n (λ i b. same i (omega arith))) (same n (omega arith))
+      ∙ sym (map-append g (below n) (n ∷ []))
+
+pub sum-table-more : (f : ℕ → ℕ) (n : ℕ) → sum (map f (below (n + 1))) ≡ sum (map f (below n)) + f n
+unfolding sum
+sum-table-more f n =
+    ap sum (table-more f n) ∙ sum-append (map f (below n)) (f n ∷ []) ∙ ap (λ k. sum (map f (below n)) + k) (add-zero (f n))
+
+pub table-of : (l : List ℕ) (n : ℕ) → n ≤ length l → map (λ i. getD l i 0) (below n) ≡ take n l
+table-of l n h =
+    let long : length (map (λ i. getD l i 0) (below n)) ≡ n = length-table (λ i. getD l i 0) n in
+    ext-getD 0 (map (λ i. getD l i 0) (below n)) (take n l)
+    (omega (arith, length-take-le n l h))
+    (λ i b.
+    let small : i < n = omega arith in
+    getD-table (λ i. getD l i 0) n i 0 small ∙ sym (getD-take n l i 0 small))
+
+zip-maps : {A B C D : Type 0} (f : B → C → D) (g : A → B) (h : A → C) (xs : List A)
+    → zipWith f (map g xs) (map h xs) ≡ map (λ x. f (g x) (h x)) xs
+unfolding zipWith
+zip-maps f g h [] = refl
+zip-maps f g h (x ∷ xs) = ap (λ ys. f (g x) (h x) ∷ ys) (zip-maps f g h xs)
+
+-- ---- sums of a table's first figures
+
+pub place-within : (l : List ℕ) (i : ℕ) → getD l i 0 ≤ sum l
+unfolding sum
+place-within [] i = omega arith
+place-within (x ∷ xs) zero = omega arith
+place-within (x ∷ xs) (suc i) = omega (arith, place-within xs i)
+
+part-within : (i : ℕ) (l : List ℕ) → sum (take i l) ≤ sum l
+part-within i l = omega (arith, ap sum (take-append-drop i l), sum-append (take i l) (drop i l))
+
+pub sum-take-more : (l : List ℕ) (i : ℕ) → i < length l → sum (take (i + 1) l) ≡ sum (take i l) + getD l i 0
+unfolding sum
+sum-take-more l i h =
+    ap (λ k. sum (take k l)) (add-one i) ∙ ap sum (take-suc l i 0 h) ∙ sum-append (take i l) (getD l i 0 ∷ [])
+    ∙ ap (λ n. sum (take i l) + n) (add-zero (getD l i 0))
+
+pub sum-take-within : (l : List ℕ) (i n : ℕ) → i ≤ n → sum (take i l) ≤ sum (take n l)
+sum-take-within l i n h = subst (λ xs. sum xs ≤ sum (take n l)) (take-take i n l h) (part-within i (take n l))
+
+-- a table whose first places hold spread figures
+module _ (game : ℕ) (table figures : List ℕ) (ts : List Ticket) (held : take (length ts) table ≡ spread game figures ts) where
+  pub spread-fills : length ts ≤ length table
+  spread-fills = omega (arith, length-take (length ts) table, ap length held, length-spread game figures ts)
+
+  module _ (count : length figures ≡ length (keep (runsIn game) ts)) where
+    pub spread-total : sum (take (length ts) table) ≡ sum figures
+    spread-total = ap sum held ∙ sum-spread game figures ts count
+
+    pub spread-within : (i : ℕ) → i < length ts → getD table i 0 ≤ sum figures
+    spread-within i b =
+        omega (arith, getD-take (length ts) table i 0 b, place-within (take (length ts) table) i, spread-total)
+
+-- ---- a ticket's paid stakes of a game
+
+abbrev pub stakesIn : ℕ → Ticket → ℕ
+stakesIn game t = cond (runsIn game t) (paidStakes game (game + 1) t) 0
+
+module _ (game : ℕ) (t : Ticket) where
+  pub before-first : game < t .first → stakesIn game t ≡ 0
+  unfolding runsIn
+  before-first h = rw (lt-leb (t .first) game h)
+
+  pub after-last : t .first ≤ game → t .stop ≤ game → stakesIn game t ≡ 0
+  unfolding runsIn
+  after-last h k = rw (le-leb (t .first) game h, le-ltb game (t .stop) k)
+
+  pub played-free : t .first ≤ game → game < t .stop → t .free ≤ game → stakesIn game t ≡ 0
+  unfolding runsIn paidStakes charge
+  played-free h k f =
+      let none : min (game + 1) (t .free) - min game (t .free) ≡ 0 = omega arith in
+      rw (le-leb (t .first) game h, lt-ltb game (t .stop) k, none) (omega arith)
+
+  pub played-paid : t .first ≤ game → game < t .stop → game < t .free → stakesIn game t ≡ t .operands .stake * t .ways
+  unfolding runsIn paidStakes charge
+  played-paid h k f =
+      let one : min (game + 1) (t .free) - min game (t .free) ≡ 1 = omega arith in
+      rw (le-leb (t .first) game h, lt-ltb game (t .stop) k, one) (mul-one (t .operands .stake * t .ways))
+
+-- ---- a ticket after the game
+
+and-off : (b : Bool) → (b && false) ≡ false
+and-off true = refl
+and-off false = refl
+
+and-on : (b : Bool) → (b && true) ≡ b
+and-on true = refl
+and-on false = refl
+
+module _ (day game cents : ℕ) (t : Ticket) where
+  pub finished-earlier : (t .finishedDay ≡ 0 → ⊥) → withDue t (t .due + cents) ≡ paidTicket day game cents t
+  finished-earlier h =
+      rw (ne-eqb (t .finishedDay) 0 h, and-off (isFinished game (withDue t (t .due + cents))))
+
+  pub games-to-come : eqb (t .stop - max (t .first) game) 0 ≡ false → withDue t (t .due + cents) ≡ paidTicket day game cents t
+  unfolding gamesLeft
+  games-to-come e = rw e
+
+  pub finishes-now : t .finishedDay ≡ 0 → eqb (t .stop - max (t .first) game) 0 ≡ true
+      → withFinishedDay (withDue t (t .due + cents)) day ≡ paidTicket day game cents t
+  unfolding gamesLeft
+  finishes-now h e = rw (e, eq-eqb (t .finishedDay) 0 h)
+
+module _ (game : ℕ) (t : Ticket) where
+  pub due-stays : (t .due ≡ 0 → ⊥) → isLive game t ≡ true
+  due-stays h = rw (ne-eqb (t .due) 0 h, and-off (isFinished game t))
+
+  pub none-due : t .due ≡ 0 → (done : Bool) → done ≡ eqb (t .stop - max (t .first) game) 0 → isLive game t ≡ not done
+  unfolding gamesLeft
+  none-due h done e = rw (eq-eqb (t .due) 0 h, and-on (isFinished game t), e)
+
+-- a ticket whose due and finishing day stay is the same
+pub paid-same : (day game cents : ℕ) (t : Ticket)
+    → paidTicket day game cents t .due ≡ t .due
+    → paidTicket day game cents t .finishedDay ≡ t .finishedDay
+    → paidTicket day game cents t ≡ t
+paid-same day game cents t = go (isFinished game (withDue t (t .due + cents)) && eqb (t .finishedDay) 0)
+  where
+    go : (done : Bool)
+        → cond done (withFinishedDay (withDue t (t .due + cents)) day) (withDue t (t .due + cents)) .due ≡ t .due
+        → cond done (withFinishedDay (withDue t (t .due + cents)) day) (withDue t (t .due + cents)) .finishedDay ≡ t .finishedDay
+        → cond done (withFinishedDay (withDue t (t .due + cents)) day) (withDue t (t .due + cents)) ≡ t
+    go true due finished = λ i. withFinishedDay (withDue t (due i)) (finished i)
+    go false due finished = λ i. withDue t (due i)
+
+module _ (g : ℕ) (t : Ticket) where
+  pub one-live : isLive g t ≡ true → stillLive g (t ∷ []) ≡ t ∷ []
+  unfolding stillLive keep
+  one-live e = rw e
+
+  pub one-closed : isLive g t ≡ false → stillLive g (t ∷ []) ≡ []
+  unfolding stillLive keep
+  one-closed e = rw e
+
+-- a ticket at the next place of those that stay
+module _ (ts : List Ticket) (left i : ℕ) (h : left ≤ i) (b : i < length ts) (g : ℕ) (t : Ticket) where
+  pub closed-stays : isLive g t ≡ false → take left ts ≡ take left ts ++ stillLive g (t ∷ [])
+  closed-stays e = sym (append-nil (take left ts)) ∙ ap (λ us. take left ts ++ us) (sym (one-closed g t e))
+
+  pub live-stays : isLive g t ≡ true → take (left + 1) (set ts left t) ≡ take left ts ++ stillLive g (t ∷ [])
+  live-stays e = take-sold left ts t (omega arith) ∙ ap (λ us. take left ts ++ us) (sym (one-live g t e))
+
+  pub rest-stays : drop (i + 1) (set ts left t) ≡ drop (i + 1) ts
+  rest-stays = drop-set-lt (i + 1) ts left t (omega arith)
+
+-- a ticket that moved has its marks with it
+pub moved-marks : (words marks words′ marks′ : List ℕ) (source to : ℕ) → source < 200 → to < 200
+    → ticketsOf words′ marks′ ≡ set (ticketsOf words marks) to (getD (ticketsOf words marks) source blankTicket)
+    → marksAt marks′ to ≡ marksAt marks source
+moved-marks words marks words′ marks′ source to h h′ moved =
+    let tickets : List Ticket = ticketsOf words marks in
+    ap (λ t. t .operands .marks)
+    (sym (tickets-at words′ marks′ to h′)
+    ∙ ap (λ ts. getD ts to blankTicket) moved
+    ∙ getD-set-same tickets to (getD tickets source blankTicket) blankTicket (omega (arith, tickets-length words marks))
+    ∙ tickets-at words marks source h)
+
+-- ---- all of them
+
+-- the tickets from a place on are still as they were
+module _ (words marks words′ marks′ : List ℕ) (i : ℕ) (same : drop i (ticketsOf words′ marks′) ≡ drop i (ticketsOf words marks)) where
+  pub ticket-untouched : i < 200 → ticketIn words′ marks′ i ≡ ticketIn words marks i
+  ticket-untouched b =
+      sym (at words′ marks′) ∙ ap (λ ts. getD ts 0 blankTicket) same ∙ at words marks
+    where
+      at : (w m : List ℕ) → getD (drop i (ticketsOf w m)) 0 blankTicket ≡ ticketIn w m i
+      at w m = getD-drop i (ticketsOf w m) 0 blankTicket ∙ ap (λ k. getD (ticketsOf w m) k blankTicket) (add-zero i) ∙ tickets-at w m i b
+
+  pub rest-untouched : drop (i + 1) (ticketsOf words′ marks′) ≡ drop (i + 1) (ticketsOf words marks)
+  rest-untouched =
+      sym (drop-drop 1 i (ticketsOf words′ marks′)) ∙ ap (drop 1) same ∙ drop-drop 1 i (ticketsOf words marks)
+
+-- those that stay of the first tickets, each with what stands at its place of a table
+unfoldable pub closedUp : ℕ → ℕ → List ℕ → List ℕ → List ℕ → ℕ → List Ticket
+closedUp day game words marks paid n =
+    stillLive game (map (λ k. paidTicket day game (getD paid k 0) (ticketIn words marks k)) (below n))
+
+module _ (day game : ℕ) (words marks paid : List ℕ) where
+  pub closed-none : [] ≡ closedUp day game words marks paid 0
+  unfolding closedUp stillLive keep below
+  closed-none = refl
+
+  pub closed-more : (n : ℕ)
+      → closedUp day game words marks paid n ++ stillLive game (paidTicket day game (getD paid n 0) (ticketIn words marks n) ∷ [])
+      ≡ closedUp day game words marks paid (n + 1)
+  unfolding closedUp stillLive
+  closed-more n =
+      let after : ℕ → Ticket = λ k. paidTicket day game (getD paid k 0) (ticketIn words marks k) in
+      sym (keep-append (isLive game) (map after (below n)) (after n ∷ [])) ∙ ap (keep (isLive game)) (sym (table-more after n))
+
+-- where the table holds the spread awards, they are the tickets that the awards leave live
+pub closed-all : (day game : ℕ) (words marks paid awards : List ℕ) (n : ℕ)
+    → take n paid ≡ spread game awards (map (ticketIn words marks) (below n))
+    → closedUp day (game + 1) words marks paid n
+    ≡ stillLive (game + 1) (map (finishedOn day (game + 1)) (awarded game awards (map (ticketIn words marks) (below n))))
+unfolding closedUp
+closed-all day game words marks paid awards n held =
+    let tickets : List Ticket = map (ticketIn words marks) (below n) in
+    let join : Ticket → ℕ → Ticket = λ t cents. withDue t (t .due + cents) in
+    let long : length tickets ≡ n = length-table (ticketIn words marks) n in
+    let enough : n ≤ length paid = omega (arith, length-take n paid, ap length held, length-spread game awards tickets) in
+    let joined : awarded game awards tickets ≡ map (λ k. join (ticketIn words marks k) (getD paid k 0)) (below n) =
+    awarded-spread game awards tickets
+    ∙ ap (zipWith join tickets) (sym held ∙ sym (table-of paid n enough))
+    ∙ zip-maps join (ticketIn words marks) (λ k. getD paid k 0) (below n) in
+    ap (stillLive (game + 1))
+    (sym (ap (map (finishedOn day (game + 1))) joined
+    ∙ map-map (finishedOn day (game + 1)) (λ k. join (ticketIn words marks k) (getD paid k 0)) (below n)))

@@ -1,0 +1,67 @@
+-- `house::prizes::marked_sums` meets its contract: the part of the marks that it lends is the ticket's own.
+use Prim.Native.Nat.{ℕ, _+_, _-_, _*_}
+use mathlib.Core.Path.{_≡_, ap, ap₂, _∙_}
+use mathlib.Core.List.{List}
+use lib.ListN.{take, drop}
+use native.Mathlib.Omega.{arith}
+use borrow.Author.Needs.{needs}
+use Rattle.rules.specs.Ways.{sizes, hits}
+use Rattle.rules.specs.Passes.{sumsOf}
+use Rattle.house.specs.View.{marksAt}
+use Rattle.draw.proofs.prizes.marked_sums.Statement.{statement}
+use Rattle.draw.proofs.prizes.marked_sums.Tie as tie
+
+-- the part that is lent has 80 marks
+own-part : (marks : List ℕ) (i : ℕ) → take (i * 80 + 80 - i * 80) (drop (i * 80) marks) ≡ marksAt marks i
+unfolding marksAt
+own-part marks i =
+    let eighty : i * 80 + 80 - i * 80 ≡ 80 = omega arith in
+    ap (λ n. take n (drop (i * 80) marks)) eighty
+
+mul-from : tie.Need-mul-from
+mul-from c = search needs
+
+add-end : tie.Need-add-end
+add-end c = search needs
+
+sub-own : tie.Need-sub-own
+sub-own c = search needs
+
+part-own-start : tie.Need-part-own-start
+part-own-start c = search needs
+
+part-own-end : tie.Need-part-own-end
+part-own-end c = search needs
+
+group-sizes-requires : tie.Need-group-sizes-requires
+group-sizes-requires c κs = search needs
+
+group-hits-requires : tie.Need-group-hits-requires
+group-hits-requires c κs = search needs
+
+ticket-sums-requires : tie.Need-ticket-sums-requires
+ticket-sums-requires c κs = search needs
+
+returns : tie.Need-returns
+returns c =
+    let args = c .before .before .before .before .before .args in
+    let own : take (args .i * 80 + 80 - args .i * 80) (drop (args .i * 80) (args .marks .now)) ≡ marksAt (args .marks .now) (args .i) =
+    own-part (args .marks .now) (args .i) in
+    c .ticket-sums .ensures
+    ∙ ap₂ (λ s h. sumsOf (args .terms) s h (args .cut) (args .next))
+    (c .before .before .group-sizes .ensures ∙ ap sizes own)
+    (c .before .group-hits .ensures ∙ ap (hits (args .draw)) own)
+
+pub marked-sums-spec : {M : Type 1} → statement M
+marked-sums-spec =
+    tie.close
+    (tie.spec
+    mul-from
+    add-end
+    sub-own
+    part-own-start
+    part-own-end
+    group-sizes-requires
+    group-hits-requires
+    ticket-sums-requires
+    returns)

@@ -1,0 +1,4 @@
+pub mod Settling
+pub mod Passing
+pub mod Sharing
+pub mod Closing

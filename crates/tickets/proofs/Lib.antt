@@ -1,0 +1,3 @@
+pub mod FoundTickets
+pub mod SellLaws
+pub mod ExpireLaws

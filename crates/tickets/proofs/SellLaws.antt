@@ -1,0 +1,160 @@
+-- Laws of Sell: what its refusal table gives, the first game of a new ticket, and the house with one ticket more as a view.
+use Prim.Native.Nat.{ℕ, _+_, _≤_, _<_}
+use native.Mathlib.Omega.{arith}
+use mathlib.Core.Path.{_≡_, refl, sym, ap, ap₂, _∙_}
+use mathlib.Core.Bool.{Bool, true, false, cond}
+use mathlib.Core.List.{List, [], _∷_, _++_}
+use lib.Dec.{eqb}
+use lib.ListN.{length, take}
+use borrow.Author.Tests.{eqb-true, eq-eqb, ne-eqb, le-leb, lt-leb, lt-ltb, le-ltb}
+use Rattle.rules.specs.Ways.{sizes}
+use Rattle.rules.specs.Price.{paidGames}
+use Rattle.rules.specs.Checks.{Operands, firstMet, operandRows, operandCode, wayCount, chargeOf, quoteOf}
+use Rattle.rules.specs.Settle.{jackpotBy}
+use Rattle.rules.specs.declared.check.Quote.{Quote}
+use Rattle.house.specs.Tickets.{Ticket, termsOf}
+use Rattle.house.specs.Model.{Model, gameLimit, liveLimit, ticketLimit, isDrawing, nextGame}
+use Rattle.house.specs.Commands.{sell, rowsOf, codeOf, soldTicket, sold}
+use Rattle.house.specs.View.{ticketsOf, view}
+use Rattle.house.specs.declared.state.House.{House}
+use Rattle.house.proofs.Ledger.{All, withLive}
+use Rattle.house.proofs.ListLaws.{cond-either}
+use Rattle.house.proofs.Refusals.{row-passed, operand-numbers, saleRows}
+use Rattle.house.proofs.ViewLaws.{view-live, view-by}
+
+-- ---- two tables, one below the other
+
+append-met-by :
+    (b : Bool) (code rest all : ℕ)
+    → ((rest ≡ 0 → ⊥) → all ≡ rest)
+    → (cond b code rest ≡ 0 → ⊥)
+    → cond b code all ≡ cond b code rest
+append-met-by true code rest all later met = refl
+append-met-by false code rest all later met = later met
+
+append-met : (rows more : List (Bool × ℕ)) → (firstMet rows ≡ 0 → ⊥) → firstMet (rows ++ more) ≡ firstMet rows
+unfolding firstMet
+append-met [] more met = absurd (met refl)
+append-met (row ∷ rows) more met =
+    append-met-by (row .0) (row .1) (firstMet rows) (firstMet (rows ++ more)) (append-met rows more) met
+
+append-clear :
+    (rows more : List (Bool × ℕ))
+    → All (λ row. row .1 ≡ 0 → ⊥) rows
+    → firstMet rows ≡ 0
+    → firstMet (rows ++ more) ≡ firstMet more
+unfolding firstMet
+append-clear [] more numbers e = refl
+append-clear (row ∷ rows) more numbers e =
+    let p = row-passed (row .0) (row .1) (firstMet rows) (numbers .0) e in
+    rw (p .0) (append-clear rows more (numbers .1) (p .1))
+
+-- ---- the code of a sale
+
+module _ (m : Model) (o : Operands) where
+  pub sale-closed : m .day ≡ 0 → codeOf m (sell o) ≡ 4
+  unfolding codeOf rowsOf firstMet
+  sale-closed e = rw (eq-eqb (m .day) 0 e)
+
+  module _ (opened : m .day ≡ 0 → ⊥) where
+    pub sale-unfit : (operandCode o ≡ 0 → ⊥) → codeOf m (sell o) ≡ operandCode o
+    unfolding codeOf rowsOf firstMet operandCode
+    sale-unfit unfit = rw (ne-eqb (m .day) 0 opened) (append-met (operandRows o) (saleRows m o) unfit)
+
+    module _ (fits : operandCode o ≡ 0) where
+      sale-room : codeOf m (sell o) ≡ firstMet (saleRows m o)
+      unfolding codeOf rowsOf firstMet operandCode
+      sale-room = rw (ne-eqb (m .day) 0 opened) (append-clear (operandRows o) (saleRows m o) (operand-numbers o) fits)
+
+      pub sale-full : liveLimit ≤ length (m .live) → codeOf m (sell o) ≡ 16
+      unfolding firstMet
+      sale-full full = sale-room ∙ rw (le-leb liveLimit (length (m .live)) full)
+
+      module _ (room : length (m .live) < liveLimit) where
+        pub sale-last-number : ticketLimit ≤ m .issued → codeOf m (sell o) ≡ 17
+        unfolding firstMet
+        sale-last-number full =
+            sale-room ∙ rw (lt-leb liveLimit (length (m .live)) room, le-leb ticketLimit (m .issued) full)
+
+        module _ (numbered : m .issued < ticketLimit) where
+          pub sale-last-game : gameLimit + 1 < nextGame m + o .games → codeOf m (sell o) ≡ 17
+          unfolding firstMet
+          sale-last-game past =
+              sale-room
+              ∙ rw (lt-leb liveLimit (length (m .live)) room, lt-leb ticketLimit (m .issued) numbered, lt-ltb (gameLimit + 1) (nextGame m + o .games) past)
+
+          pub sale-fits : nextGame m + o .games ≤ gameLimit + 1 → codeOf m (sell o) ≡ 0
+          unfolding firstMet
+          sale-fits ends =
+              sale-room
+              ∙ rw (lt-leb liveLimit (length (m .live)) room, lt-leb ticketLimit (m .issued) numbered, le-ltb (gameLimit + 1) (nextGame m + o .games) ends)
+
+-- ---- the quote
+
+module _ (o : Operands) where
+  pub quoted-code : quoteOf o .code ≡ operandCode o
+  unfolding quoteOf
+  quoted-code = go (eqb (operandCode o) 0) refl
+    where
+      go : (b : Bool) → eqb (operandCode o) 0 ≡ b
+          → cond {A = Quote} b (record { code = 0; ways = wayCount o; charge = chargeOf o }) (record { code = operandCode o; ways = 0; charge = 0 }) .code ≡ operandCode o
+      go true e = sym (eqb-true (operandCode o) 0 e)
+      go false e = refl
+
+  pub quoted : operandCode o ≡ 0 → quoteOf o ≡ record { code = 0; ways = wayCount o; charge = chargeOf o }
+  unfolding quoteOf
+  quoted e = rw (eq-eqb (operandCode o) 0 e)
+
+-- ---- the first game
+
+pub next-within : (m : Model) → nextGame m ≤ m .game + 1
+next-within m = cond-either (λ g. g ≤ m .game + 1) (isDrawing m) (omega arith) (omega arith)
+
+-- ---- the new ticket, and the house with it
+
+-- the struct with a charge taken for one ticket more
+abbrev pub soldHouse : House → ℕ → House
+soldHouse h charge =
+    record { day = h .day; game = h .game; balls = h .balls; drawn = h .drawn; issued = h .issued + 1; live = h .live + 1; six = h .six; eight = h .eight; counters = record { taken = h .counters .taken + charge; seeds = h .counters .seeds; paid = h .counters .paid; refunded = h .counters .refunded; unclaimed = h .counters .unclaimed; gained = h .counters .gained; lost = h .counters .lost } }
+
+module _ (h : House) (words marks : List ℕ) (o : Operands) where
+  pub ticket-sold :
+      (first jackpot paid count : ℕ)
+      → first ≡ nextGame (view h words marks)
+      → jackpot ≡ jackpotBy (termsOf o) (sizes (o .marks))
+      → paid ≡ paidGames (o .games)
+      → count ≡ wayCount o
+      → _≡_ {A = Ticket}
+      (record { number = h .issued + 1; operands = o; ways = count; jackpot = jackpot; soldDay = h .day; first = first; stop = first + o .games; free = first + paid; due = 0; finishedDay = 0 })
+      (soldTicket (view h words marks) o)
+  unfolding view
+  ticket-sold first jackpot paid count began played payed counted =
+      λ x.
+      record {
+        number = h .issued + 1;
+        operands = o;
+        ways = counted x;
+        jackpot = played x;
+        soldDay = h .day;
+        first = began x;
+        stop = began x + o .games;
+        free = began x + payed x;
+        due = 0;
+        finishedDay = 0;
+      }
+
+  pub house-sold :
+      (charge : ℕ) (words′ marks′ : List ℕ) (t : Ticket)
+      → h .live < liveLimit
+      → charge ≡ chargeOf o
+      → take (h .live + 1) (ticketsOf words′ marks′) ≡ take (h .live) (ticketsOf words marks) ++ (t ∷ [])
+      → t ≡ soldTicket (view h words marks) o
+      → view (soldHouse h charge) words′ marks′ ≡ sold o (view h words marks)
+  unfolding view sold
+  house-sold charge words′ marks′ t room charged appended made =
+      let tickets : view (soldHouse h charge) words′ marks′ .live ≡ view h words marks .live ++ (soldTicket (view h words marks) o ∷ []) =
+      view-live (soldHouse h charge) words′ marks′ (omega arith)
+      ∙ appended
+      ∙ ap₂ (λ ts t. ts ++ (t ∷ [])) (sym (view-live h words marks (omega arith))) made in
+      view-by (soldHouse h charge) words′ marks′ (view h words marks .live ++ (soldTicket (view h words marks) o ∷ [])) tickets
+      ∙ ap (λ charge. withLive (view (soldHouse h charge) words′ marks′) (view h words marks .live ++ (soldTicket (view h words marks) o ∷ []))) charged

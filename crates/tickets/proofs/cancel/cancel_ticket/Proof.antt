@@ -1,0 +1,274 @@
+-- `house::cancel::cancel_ticket` meets its contract: the refusals are the table's rows in their order, and a cancelled ticket is the found one
+-- with its games cut off, whose refund a reached house has room for.
+use Prim.Native.Nat.{ℕ, _+_, _*_, _^_, _≤_, _<_, min, max}
+use native.Mathlib.Omega.{arith}
+use mathlib.Core.Path.{_≡_, sym, ap, ap₂, _∙_, subst, subst⁻¹}
+use mathlib.Core.Bool.{not}
+use mathlib.Core.List.{List}
+use lib.Dec.{eqb}
+use lib.ListN.{take}
+use borrow.Author.Needs.{needs}
+use Rattle.rules.specs.Price.{chargeLimit}
+use Rattle.rules.specs.Checks.{firstMet}
+use Rattle.house.specs.Tickets.{Ticket, paidStakes, withStop}
+use Rattle.house.specs.Commands.{changed, stillLive, finishedOn, lookupRows, cancelStop, cancelledTicket, cancel, rowsOf, codeOf, refundOf, cancelled, act, reply}
+use Rattle.house.specs.Till.{tillOf}
+use Rattle.house.specs.View.{rowOf, marksAt, ticketFrom, ticketIn, ticketsOf, view}
+use Rattle.tickets.specs.Steps.{cancelRows, replaced}
+use Rattle.house.specs.declared.state.House.{House}
+use Rattle.house.specs.declared.rows.Row.{Row}
+use Rattle.house.proofs.Ledger.{Kept, withLive}
+use Rattle.house.proofs.Refusals.{operands-accepted, cancel-accepted}
+use Rattle.house.proofs.SheetFigures.{paid-games-within}
+use Rattle.house.proofs.Bounded.{stake-within, ways-within, span-paid-within}
+use Rattle.house.proofs.ReachedHouses.{reached-sure}
+use Rattle.house.proofs.ViewLaws.{carried-refused, carried-done, view-drawing, view-few, view-by}
+use Rattle.tickets.proofs.FoundTickets.{Found, first-met-above, found-few, found-rest, found-within, found-ticket, found-holds, found-changed}
+use Rattle.tickets.proofs.cancel.cancel_ticket.Statement.{statement}
+use Rattle.tickets.proofs.cancel.cancel_ticket.Tie as tie
+
+-- ---- a cancellation in the model
+
+-- the house after it
+abbrev paidBack : House → ℕ → ℕ → House
+paidBack h live cents =
+    record {
+      day = h .day;
+      game = h .game;
+      balls = h .balls;
+      drawn = h .drawn;
+      issued = h .issued;
+      live = live;
+      six = h .six;
+      eight = h .eight;
+      counters = record { taken = h .counters .taken; seeds = h .counters .seeds; paid = h .counters .paid; refunded = h .counters .refunded + cents; unclaimed = h .counters .unclaimed; gained = h .counters .gained; lost = h .counters .lost };
+    }
+
+-- what the code that works out a refund asks of the row
+abbrev Refundable : Row → ℕ → Type 0
+Refundable row stop = (stop ≤ row .stop) × (row .free ≤ stop + 100) × (row .ways ≤ 255) × (row .stake < 2 ^ 32)
+
+refundable : (game stop : ℕ) (row : Row) (marks : List ℕ) → Kept game (ticketFrom row marks) → row .first ≤ stop → stop < row .stop → Refundable row stop
+refundable game stop row marks kept begun some =
+    let operands = ticketFrom row marks .operands in
+    omega (
+      arith,
+      kept .freeFrom,
+      kept .counted,
+      paid-games-within (row .games),
+      operands-accepted operands (kept .checked) .fewGames,
+      ways-within operands (kept .checked),
+      stake-within operands (kept .checked),
+    )
+
+-- where Cancel cuts off the ticket at a place, and what it pays back
+abbrev stopIn : House → List ℕ → List ℕ → ℕ → ℕ
+stopIn h words marks p = cancelStop (view h words marks) (ticketIn words marks p)
+
+abbrev refundIn : House → List ℕ → List ℕ → ℕ → ℕ
+refundIn h words marks p = paidStakes (stopIn h words marks p) (ticketIn words marks p .stop) (ticketIn words marks p)
+
+abbrev cancelledIn : House → List ℕ → List ℕ → ℕ → Ticket
+cancelledIn h words marks p = finishedOn (h .day) (h .game) (withStop (ticketIn words marks p) (stopIn h words marks p))
+
+module _ {h : House} {words marks : List ℕ} {n p : ℕ} (found : Found h words marks n p) where
+  kept : Kept (h .game) (ticketIn words marks p)
+  unfolding view
+  kept = found-holds found (Kept (h .game)) (found .sure .kept)
+
+  rest-code :
+      codeOf (view h words marks) (cancel n)
+      ≡ firstMet (cancelRows (h .day) (h .game) (not (eqb (h .drawn) 0)) (stopIn h words marks p) (ticketIn words marks p))
+  unfolding codeOf rowsOf view
+  rest-code =
+      found-rest found _
+      ∙ ap₂ (λ drawing t. firstMet (cancelRows (h .day) (h .game) drawing (cancelStop (view h words marks) t) t)) (view-drawing h words marks) (found-ticket found)
+
+  module _ (passed : codeOf (view h words marks) (cancel n) ≡ 0) where
+    some : stopIn h words marks p < ticketIn words marks p .stop
+    some = subst (λ t. cancelStop (view h words marks) t < t .stop) (found-ticket found) (cancel-accepted (view h words marks) n passed .some)
+
+    refund-fits : Refundable (rowOf words (p * 16)) (stopIn h words marks p)
+    refund-fits = refundable (h .game) (stopIn h words marks p) (rowOf words (p * 16)) (marksAt marks p) kept (omega arith) some
+
+    room : h .counters .refunded + refundIn h words marks p < 2 ^ 63
+    unfolding tillOf view
+    room =
+        let cents : refundIn h words marks p ≤ chargeLimit =
+        span-paid-within (h .game) (stopIn h words marks p) (ticketIn words marks p .stop) (ticketIn words marks p) kept (omega arith) in
+        let refunded : h .counters .refunded < 2 ^ 62 = found .sure .fit .figures .refunded in
+        omega arith
+
+    cut-off : min (ticketIn words marks p .stop) (stopIn h words marks p) ≡ stopIn h words marks p
+    cut-off = omega (arith, some)
+
+    model-cancelled :
+        (live : ℕ) (words′ marks′ : List ℕ)
+        → live ≤ h .live
+        → take live (ticketsOf words′ marks′) ≡ replaced (h .game) p (cancelledIn h words marks p) (take (h .live) (ticketsOf words marks))
+        → view (paidBack h live (refundIn h words marks p)) words′ marks′ ≡ act (view h words marks) (cancel n)
+    unfolding act cancelled refundOf view
+    model-cancelled live words′ marks′ fewer made =
+        let tickets : List Ticket = stillLive (h .game) (changed n (cancelledTicket (view h words marks)) (view h words marks .live)) in
+        view-by (paidBack h live (refundIn h words marks p)) words′ marks′ tickets
+        (found-changed found (cancelledTicket (view h words marks)) (paidBack h live (refundIn h words marks p)) words′ marks′ fewer
+        (made
+        ∙ ap (λ stop. replaced (h .game) p (finishedOn (h .day) (h .game) (withStop (ticketIn words marks p) stop)) (take (h .live) (ticketsOf words marks))) (sym cut-off)))
+        ∙ ap (λ t. withLive (view (paidBack h live (paidStakes (cancelStop (view h words marks) t) (t .stop) t)) words′ marks′) tickets) (sym (found-ticket found))
+
+-- ---- at the places of the code
+
+-- where the ticket is found
+abbrev start : tie.Else1 → tie.Start
+start c = c .before .before .before .before
+
+abbrev place : tie.Else1 → ℕ
+place c = c .before .before .look-up .result .place
+
+-- the marks of its ticket, and a definition at its buffers and place
+abbrev own : tie.Else1 → List ℕ
+own c = marksAt (start c .args .marks .now) (place c)
+
+abbrev by-place : {A : Type 0} → (House → List ℕ → List ℕ → ℕ → A) → tie.Else1 → A
+by-place f c = f (start c .args .house) (start c .args .rows .now) (start c .args .marks .now) (place c)
+
+-- the command's code by its table
+abbrev table-code : tie.Else1 → ℕ
+table-code c = codeOf (view (start c .args .house) (start c .args .rows .now) (start c .args .marks .now)) (cancel (start c .args .ticket))
+
+found-at : (c : tie.Else1) → Found (start c .args .house) (start c .args .rows .now) (start c .args .marks .now) (start c .args .ticket) (place c)
+found-at c =
+    let answer = c .before .before .look-up .ensures in
+    record {
+      sure = reached-sure _ (start c .pre);
+      passed = sym (answer .0 (start c .args .marks .now)) ∙ c .if1 .left;
+      placed = answer .1 (start c .args .marks .now) (c .if1 .left);
+    }
+
+-- the row that was read is the ticket's, so each step gives what it is to give for the ticket
+stop-at : (c : tie.After-larger) → c .larger .result ≡ by-place stopIn (c .before .before .before .before)
+stop-at c =
+    let args = start (c .before .before .before .before) .args in
+    c .larger .ensures
+    ∙ ap₂ max (ap (λ row. row .first) (c .before .before .read-row .ensures)) (c .before .first-game .ensures (args .rows .now) (args .marks .now))
+
+code-at : (c : tie.After-cancel-code) → table-code (c .before .before .before .before .before) ≡ c .cancel-code .result
+code-at c =
+    let found = c .before .before .before .before .before in
+    let house = start found .args .house in
+    rest-code (found-at found)
+    ∙ ap₂ (λ row stop. firstMet (cancelRows (house .day) (house .game) (not (eqb (house .drawn) 0)) stop (ticketFrom row (own found))))
+    (sym (c .before .before .before .read-row .ensures)) (sym (stop-at (c .before)))
+    ∙ sym (c .cancel-code .ensures (own found))
+
+cents-at : (c : tie.After-refund) → c .refund .result ≡ by-place refundIn (c .before .before .before .before .before .before .before)
+cents-at c =
+    c .refund .ensures (own (c .before .before .before .before .before .before .before))
+    ∙ ap₂ (λ row stop. paidStakes stop (row .stop) (ticketFrom row (own (c .before .before .before .before .before .before .before)))) (c .before .before .before .before .before .read-row .ensures) (stop-at (c .before .before .before))
+
+ticket-at : (c : tie.After-cancelled-row) → ticketFrom (c .cancelled-row .result) (own (c .before .before .before .before .before .before .before .before .before)) ≡ by-place cancelledIn (c .before .before .before .before .before .before .before .before .before)
+ticket-at c =
+    let found = c .before .before .before .before .before .before .before .before .before in
+    let house = start found .args .house in
+    c .cancelled-row .ensures (own found)
+    ∙ ap₂ (λ row stop. finishedOn (house .day) (house .game) (withStop (ticketFrom row (own found)) stop)) (c .before .before .before .before .before .before .before .read-row .ensures) (stop-at (c .before .before .before .before .before))
+
+look-up-requires : tie.Need-look-up-requires
+look-up-requires c κs = view-few _ _ _ (reached-sure _ (c .before .pre))
+
+refused-requires : tie.Need-refused-requires
+refused-requires c κs = search needs
+
+returns : tie.Need-returns
+unfolding codeOf rowsOf
+returns c =
+    let args = c .before .before .before .before .before .args in
+    let model = view (args .house) (args .rows .now) (args .marks .now) in
+    let answer = c .before .before .before .look-up .ensures .0 (args .marks .now) in
+    carried-refused (args .house) (args .rows .now) (args .marks .now) (cancel (args .ticket)) (c .before .before .before .look-up .result .code) _ _
+    (first-met-above (lookupRows (args .ticket) model) _ (λ none. c .before .if1 .taken (answer ∙ none)) ∙ sym answer)
+    (c .before .if1 .taken) (c .refused .ensures .0) (c .refused .ensures .1)
+
+read-row-requires : tie.Need-read-row-requires
+read-row-requires c κs = omega (arith, found-within (found-at (c .before)), found-few (found-at (c .before)))
+
+first-game-requires : tie.Need-first-game-requires
+unfolding view
+first-game-requires c κs = found-at (c .before .before) .sure .game
+
+larger-requires : tie.Need-larger-requires
+larger-requires c κs = search needs
+
+cancel-code-requires : tie.Need-cancel-code-requires
+cancel-code-requires c κs = search needs
+
+refused-requires-2 : tie.Need-refused-requires-2
+refused-requires-2 c κs = search needs
+
+returns-2 : tie.Need-returns-2
+returns-2 c =
+    let args = start (c .before .before .before .before .before .before .before) .args in
+    carried-refused (args .house) (args .rows .now) (args .marks .now) (cancel (args .ticket)) (c .before .before .cancel-code .result) _ _
+    (code-at (c .before .before)) (c .before .if2 .taken) (c .refused2 .ensures .0) (c .refused2 .ensures .1)
+
+refund-requires : tie.Need-refund-requires
+refund-requires c κs =
+    let found = c .before .before .before .before .before .before in
+    subst⁻¹ (λ row. Refundable row (c .before .before .larger .result)) (c .before .before .before .before .read-row .ensures)
+    (subst⁻¹ (Refundable (rowOf (start found .args .rows .now) (place found * 16))) (stop-at (c .before .before))
+    (refund-fits (found-at found) (code-at (c .before) ∙ c .if2 .left)))
+
+add-refunded : tie.Need-add-refunded
+add-refunded c =
+    let passing = c .before .before in
+    omega (arith, room (found-at (passing .before .before .before .before .before .before)) (code-at (passing .before) ∙ passing .if2 .left), cents-at (c .before))
+
+cancelled-row-requires : tie.Need-cancelled-row-requires
+cancelled-row-requires c κs = search needs
+
+replace-ticket-requires : tie.Need-replace-ticket-requires
+replace-ticket-requires c κs =
+    let found = found-at (c .before .before .before .before .before .before .before .before .before .before .before) in
+    (found-within found, found-few found)
+
+accepted-requires : tie.Need-accepted-requires
+accepted-requires c κs = search needs
+
+returns-3 : tie.Need-returns-3
+unfolding reply refundOf
+returns-3 c =
+    let after = c .before .before .replace-ticket in
+    let paid = c .before .before .before .before .before .before .before in
+    let passing = paid .before in
+    let here = passing .before .before .before .before .before .before in
+    let args = start here .args in
+    let words = args .rows .now in
+    let marks = args .marks .now in
+    let passed = code-at (passing .before) ∙ passing .if2 .left in
+    carried-done (args .house) words marks (cancel (args .ticket)) _ _ _ _ passed
+    (ap (λ h. view h (after .last .0) (after .last .1 .0)) (c .accepted .ensures .0 ∙ ap (paidBack (args .house) (after .result)) (cents-at paid))
+    ∙ model-cancelled (found-at here) passed (after .result) (after .last .0) (after .last .1 .0) (after .ensures .0)
+    (after .ensures .1 ∙ ap (λ t. replaced (args .house .game) (place here) t (take (args .house .live) (ticketsOf words marks))) (ticket-at (c .before .before .before .before .before))))
+    (c .accepted .ensures .1
+    ∙ ap (λ cents. record { code = 0; number = args .ticket; cents = cents })
+    (cents-at paid ∙ ap (λ t. paidStakes (cancelStop (view (args .house) words marks) t) (t .stop) t) (sym (found-ticket (found-at here)))))
+
+pub cancel-ticket-spec : {M : Type 1} → statement M
+cancel-ticket-spec =
+    tie.close
+    (tie.spec
+    look-up-requires
+    refused-requires
+    returns
+    read-row-requires
+    first-game-requires
+    larger-requires
+    cancel-code-requires
+    refused-requires-2
+    returns-2
+    refund-requires
+    add-refunded
+    cancelled-row-requires
+    replace-ticket-requires
+    accepted-requires
+    returns-3)

@@ -1,0 +1,165 @@
+-- `house::expire::drop_expired` meets its contract: the tickets passed so far are those that stay, and the rest are as they were.
+use Prim.Native.Nat.{_+_, _-_, _≤_, _<_, _^_}
+use mathlib.Core.Path.{_≡_, refl, sym, ap, _∙_, subst, subst⁻¹}
+use mathlib.Core.List.{List, map}
+use native.Mathlib.Omega.{arith}
+use lib.ListN.{length, getD, take}
+use borrow.Author.Needs.{needs}
+use Rattle.rules.specs.Lists.{sum}
+use Rattle.house.specs.Tickets.{Ticket}
+use Rattle.house.specs.Commands.{blankTicket, isExpired}
+use Rattle.house.specs.View.{ticketIn, ticketsOf}
+use Rattle.house.proofs.RowLaws.{tickets-length, tickets-at}
+use Rattle.house.proofs.ViewLaws.{view-live}
+use Rattle.tickets.proofs.ExpireLaws.{onDay, Passed, passed-none, passed-gone, passed-stays, passed-fits, next-same, passed-swept}
+use Rattle.tickets.proofs.expire.drop_expired.Statement.{statement}
+use Rattle.tickets.proofs.expire.drop_expired.Tie as tie
+
+abbrev Inv-loop : tie.InvT-loop
+Inv-loop rows₀ marks₀ game day live left₀ cents₀ i₀ rows marks left cents i =
+    (i ≤ live) × Passed (isExpired (onDay game day)) (ticketsOf rows₀ marks₀) (ticketsOf rows marks) i left cents
+
+abbrev μ-loop : tie.MeasureT-loop
+μ-loop rows₀ marks₀ game day live left₀ cents₀ i₀ rows marks left cents i = live - i
+
+-- the tickets at entry, and what their dues come to
+abbrev entry : tie.Start Inv-loop μ-loop → List Ticket
+entry start = ticketsOf (start .args .rows .now) (start .args .marks .now)
+
+within : (start : tie.Start Inv-loop μ-loop) → sum (map (λ t. t .due) (take (start .args .house .live) (entry start))) < 2 ^ 62
+within start =
+    let args = start .args in
+    subst (λ (ts : List Ticket). sum (map (λ t. t .due) ts) < 2 ^ 62) (view-live (args .house) (args .rows .now) (args .marks .now) (start .pre .0)) (start .pre .1)
+
+-- the ticket of a turn is as it was, and the test is of it
+module _ (c : tie.In-loop Inv-loop μ-loop) where
+  inside : c .before .loop .i < length (entry (c .before .before))
+  inside =
+      let start = c .before .before in
+      omega (arith, c .loop-test .taken, start .pre .0, tickets-length (start .args .rows .now) (start .args .marks .now))
+
+  as-it-was : ticketIn (c .before .loop .rows) (c .before .loop .marks) (c .before .loop .i) ≡ getD (entry (c .before .before)) (c .before .loop .i) blankTicket
+  as-it-was =
+      let turn = c .before .loop in
+      let start = c .before .before in
+      sym (tickets-at (turn .rows) (turn .marks) (turn .i) (omega (arith, c .loop-test .taken, start .pre .0)))
+      ∙ next-same (isExpired (onDay (start .args .house .game) (start .args .house .day))) (entry start) (ticketsOf (turn .rows) (turn .marks)) (turn .i) (turn .left) (turn .cents) (turn .inv .1) inside
+
+tested : (c : tie.After-row-expires Inv-loop μ-loop) →
+    let turn = c .before .before .before .loop in
+    let start = c .before .before .before .before in
+    c .row-expires .result ≡ isExpired (onDay (start .args .house .game) (start .args .house .day)) (getD (entry start) (turn .i) blankTicket)
+tested c =
+    let turn = c .before .before .before .loop in
+    let args = c .before .before .before .before .args in
+    let m = onDay (args .house .game) (args .house .day) in
+    c .row-expires .ensures m (turn .marks) refl refl ∙ ap (isExpired m) (as-it-was (c .before .before))
+
+loop-holds : tie.Need-loop-holds Inv-loop μ-loop
+loop-holds c = (omega arith, passed-none (isExpired (onDay (c .args .house .game) (c .args .house .day))) (ticketsOf (c .args .rows .now) (c .args .marks .now)))
+
+row-expires-requires : tie.Need-row-expires-requires Inv-loop μ-loop
+row-expires-requires c κs = search needs
+
+mul-at : tie.Need-mul-at Inv-loop μ-loop
+mul-at c = search needs
+
+add-cents : tie.Need-add-cents Inv-loop μ-loop
+add-cents c = search needs
+
+mul-cents : tie.Need-mul-cents Inv-loop μ-loop
+mul-cents c = search needs
+
+element-copy-out-cents : tie.Need-element-copy-out-cents Inv-loop μ-loop
+element-copy-out-cents c = search needs
+
+add-cents-2 : tie.Need-add-cents-2 Inv-loop μ-loop
+add-cents-2 c =
+    let tests = c .before .before in
+    let here = tests .before .before in
+    let turn = here .before .loop in
+    let start = here .before .before in
+    omega (
+      arith,
+      ap (λ t. t .due) (as-it-was here),
+      passed-fits (isExpired (onDay (start .args .house .game) (start .args .house .day))) (entry start) (ticketsOf (turn .rows) (turn .marks)) (turn .i) (turn .left) (turn .cents) (turn .inv .1) (inside here) (start .args .house .live) (sym (tested tests) ∙ c .before .if1 .taken) (here .loop-test .taken),
+      within start,
+    )
+
+add-i : tie.Need-add-i Inv-loop μ-loop
+add-i c = search needs
+
+loop-less : tie.Need-loop-less Inv-loop μ-loop
+loop-less c = search needs
+
+loop-again : tie.Need-loop-again Inv-loop μ-loop
+loop-again c =
+    let tests = c .before .before in
+    let here = tests .before .before in
+    let turn = here .before .loop in
+    let start = here .before .before in
+    let f = isExpired (onDay (start .args .house .game) (start .args .house .day)) in
+    let now = ticketsOf (turn .rows) (turn .marks) in (
+      omega (arith, here .loop-test .taken),
+      subst⁻¹ (λ due. Passed f (entry start) now (turn .i + 1) (turn .left) (turn .cents + due)) (ap (λ t. t .due) (as-it-was here))
+          (passed-gone f (entry start) now (turn .i) (turn .left) (turn .cents) (turn .inv .1) (inside here) (sym (tested tests) ∙ c .before .if1 .taken)),
+    )
+
+move-ticket-requires : tie.Need-move-ticket-requires Inv-loop μ-loop
+move-ticket-requires c κs = search needs
+
+add-left : tie.Need-add-left Inv-loop μ-loop
+add-left c = search needs
+
+add-i-2 : tie.Need-add-i-2 Inv-loop μ-loop
+add-i-2 c = search needs
+
+loop-less-2 : tie.Need-loop-less-2 Inv-loop μ-loop
+loop-less-2 c = search needs
+
+loop-again-2 : tie.Need-loop-again-2 Inv-loop μ-loop
+loop-again-2 c =
+    let tests = c .before .before .before .before in
+    let here = tests .before .before in
+    let turn = here .before .loop in
+    let start = here .before .before in
+    let f = isExpired (onDay (start .args .house .game) (start .args .house .day)) in
+    let now = ticketsOf (turn .rows) (turn .marks) in (
+      omega (arith, here .loop-test .taken),
+      passed-stays f (entry start) now (turn .i) (turn .left) (turn .cents) (turn .inv .1) (inside here) (ticketsOf (c .move-ticket .last .0) (c .move-ticket .last .1 .0)) (sym (tested tests) ∙ c .before .before .before .if1 .left)
+          (omega (arith, here .loop-test .taken, start .pre .0, turn .inv .1 .behind, tickets-length (turn .rows) (turn .marks)))
+          (c .move-ticket .ensures),
+    )
+
+returns : tie.Need-returns Inv-loop μ-loop
+returns c =
+    let turn = c .before .loop in
+    let start = c .before .before in
+    let args = start .args in
+    let f = isExpired (onDay (args .house .game) (args .house .day)) in
+    let done : turn .i ≡ args .house .live = omega (arith, turn .inv .0, c .loop-test .left) in
+    passed-swept (args .house) (args .rows .now) (args .marks .now) (turn .rows) (turn .marks) (turn .left) (turn .cents) (start .pre .0)
+    (subst (λ i. Passed f (entry start) (ticketsOf (turn .rows) (turn .marks)) i (turn .left) (turn .cents)) done (turn .inv .1))
+
+pub drop-expired-spec : {M : Type 1} → statement M
+drop-expired-spec =
+    tie.close
+    (tie.spec
+    Inv-loop
+    μ-loop
+    loop-holds
+    row-expires-requires
+    mul-at
+    add-cents
+    mul-cents
+    element-copy-out-cents
+    add-cents-2
+    add-i
+    loop-less
+    loop-again
+    move-ticket-requires
+    add-left
+    add-i-2
+    loop-less-2
+    loop-again-2
+    returns)

@@ -1,0 +1,160 @@
+// Cancel: every undrawn game but the one being drawn is taken off, and its paid stakes go back.
+use crate::lookup::look_up;
+use house::answer::Outcome;
+use house::answer::accepted;
+use house::answer::refused;
+use house::rows::Row;
+use house::rows::change_ticket;
+use house::rows::is_finished;
+use house::rows::read_row;
+use house::rows::remove_ticket;
+use house::state::House;
+use rules::price::charge_of;
+ghost use mathlib.Core.Path.{_≡_};
+ghost use mathlib.Core.Bool.{not, _&&_, _||_};
+ghost use mathlib.Core.List.{List};
+ghost use Prim.Native.Nat.{ℕ, _+_, _^_, _≤_, _<_, min, max};
+ghost use lib.Dec.{ltb, leb, eqb};
+ghost use lib.ListN.{take};
+ghost use Rattle.rules.specs.Checks.{firstMet};
+ghost use Rattle.house.specs.Model.{gameLimit, nextGame};
+ghost use Rattle.house.specs.Tickets.{isLive, paidStakes, withStop};
+ghost use Rattle.house.specs.Commands.{finishedOn, cancel};
+ghost use Rattle.house.specs.Balance.{Reached};
+ghost use Rattle.house.specs.View.{marksAt, ticketFrom, ticketsOf, view};
+ghost use Rattle.house.specs.Parts.{Carried};
+ghost use Rattle.tickets.specs.Steps.{cancelRows, replaced};
+
+fn larger(a: u64, b: u64) -> u64
+    ensures { λ r. ⌜ r ≡ max a b ⌝ }
+{
+    if a < b { b } else { a }
+}
+
+fn smaller(a: u64, b: u64) -> u64
+    ensures { λ r. ⌜ r ≡ min a b ⌝ }
+{
+    if a < b { a } else { b }
+}
+
+// Whether a ticket of 50 games or more has begun.
+fn keno_to_go_begun(game: u64, drawn: u64, games: u64, first: u64) -> bool
+    ensures { λ r. ⌜ r ≡ (leb 50 games && (ltb first game || (eqb first game && not (eqb drawn 0)))) ⌝ }
+{
+    if games < 50 {
+        return false;
+    }
+    if first < game {
+        return true;
+    }
+    if first != game {
+        return false;
+    }
+    drawn != 0
+}
+
+// The refusal of a cancellation of a live ticket whose games from `stop` on would be taken off, or 0.
+fn cancel_code(house: House, row: Row, stop: u64) -> u8
+    ensures { λ r. ⌜ ((marks : List ℕ) → r ≡ firstMet (cancelRows (house .day) (house .game) (not (eqb (house .drawn) 0)) stop (ticketFrom row marks))) ⌝ }
+{
+    if row.sold < house.day {
+        return 20;
+    }
+    if keno_to_go_begun(house.game, house.drawn, row.games, row.first) {
+        return 21;
+    }
+    if row.stop <= stop {
+        return 22;
+    }
+    0
+}
+
+// The paid stakes of a ticket's games from `stop` on.
+fn refund(row: Row, stop: u64) -> u64
+    requires { ⌜ (stop ≤ row .stop) × (row .free ≤ stop + 100) × (row .ways ≤ 255) × (row .stake < 2 ^ 32) ⌝ }
+    ensures { λ r. ⌜ ((marks : List ℕ) → r ≡ paidStakes stop (row .stop) (ticketFrom row marks)) ⌝ }
+{
+    let paid = smaller(row.stop, row.free) - smaller(stop, row.free);
+    charge_of(row.stake as u32, row.ways as u32, paid as u8)
+}
+
+// The row of a ticket whose games from `stop` on are taken off: one that is now finished gets its finishing day.
+fn cancelled_row(day: u64, game: u64, mut row: Row, stop: u64) -> Row
+    ensures { λ r. ⌜ ((marks : List ℕ) → ticketFrom r marks ≡ finishedOn day game (withStop (ticketFrom row marks) stop)) ⌝ }
+{
+    row.stop = stop;
+    if !is_finished(game, row.first, stop) {
+        return row;
+    }
+    if row.finished != 0 {
+        return row;
+    }
+    row.finished = day;
+    row
+}
+
+// Whether a ticket is finished with nothing due.
+fn is_closed(game: u64, row: Row) -> bool
+    ensures { λ r. ⌜ ((marks : List ℕ) → r ≡ not (isLive game (ticketFrom row marks))) ⌝ }
+{
+    if row.due != 0 {
+        return false;
+    }
+    is_finished(game, row.first, row.stop)
+}
+
+// Another row in the place of a live ticket's, or the ticket removed where the row is a closed one; answers how many are live then.
+fn replace_ticket(
+    rows: &mut [u64; 3200],
+    marks: &mut [u8; 16000],
+    live: usize,
+    place: usize,
+    game: u64,
+    row: Row,
+) -> usize
+    requires { ⌜ (place < live) × (live ≤ 200) ⌝ }
+    ensures { λ r. ⌜ (r ≤ live) × (take r (ticketsOf (now (rows .exit)) (now (marks .exit))) ≡ replaced game place (ticketFrom row (marksAt (now (marks .entry)) place)) (take live (ticketsOf (now (rows .entry)) (now (marks .entry))))) ⌝ }
+{
+    if is_closed(game, row) {
+        remove_ticket(rows, marks, live, place);
+        return live - 1;
+    }
+    change_ticket(rows, place, row);
+    live
+}
+
+pub fn cancel_ticket(
+    mut house: House,
+    rows: &mut [u64; 3200],
+    marks: &mut [u8; 16000],
+    ticket: u32,
+) -> Outcome
+    requires { ⌜ Reached (view house (now rows) (now marks)) ⌝ }
+    ensures { λ r. ⌜ Carried house (now (rows .entry)) (now (marks .entry)) (cancel ticket) (r .house) (now (rows .exit)) (now (marks .exit)) (r .answer) ⌝ }
+{
+    let found = look_up(house, rows, ticket);
+    if found.code != 0 {
+        return refused(house, found.code);
+    }
+    let place = found.place;
+    let row = read_row(rows, place);
+    let stop = larger(row.first, house.first_game());
+    let code = cancel_code(house, row, stop);
+    if code != 0 {
+        return refused(house, code);
+    }
+    let cents = refund(row, stop);
+    let refunded = house.counters.refunded + cents;
+    let cancelled = cancelled_row(house.day, house.game, row, stop);
+    let live = replace_ticket(
+        rows,
+        marks,
+        house.live as usize,
+        place,
+        house.game,
+        cancelled,
+    );
+    house.live = live as u64;
+    house.counters.refunded = refunded;
+    accepted(house, ticket, cents)
+}

@@ -1,0 +1,59 @@
+// Claim: everything that a finished ticket won is paid, and the ticket closes.
+use crate::lookup::look_up;
+use house::answer::Outcome;
+use house::answer::accepted;
+use house::answer::refused;
+use house::rows::Row;
+use house::rows::is_finished;
+use house::rows::read_row;
+use house::rows::remove_ticket;
+use house::state::House;
+ghost use mathlib.Core.Path.{_≡_};
+ghost use mathlib.Core.List.{List};
+ghost use Prim.Native.Nat.{ℕ};
+ghost use Rattle.rules.specs.Checks.{firstMet};
+ghost use Rattle.house.specs.Commands.{claim};
+ghost use Rattle.house.specs.Balance.{Reached};
+ghost use Rattle.house.specs.View.{ticketFrom, view};
+ghost use Rattle.house.specs.Parts.{Carried};
+ghost use Rattle.tickets.specs.Steps.{claimRows};
+
+// The refusal of a claim on a live ticket where the given game is the current one, or 0.
+fn claim_code(game: u64, row: Row) -> u8
+    ensures { λ r. ⌜ ((marks : List ℕ) → r ≡ firstMet (claimRows game (ticketFrom row marks))) ⌝ }
+{
+    if !is_finished(game, row.first, row.stop) {
+        return 23;
+    }
+    if row.due == 0 {
+        return 24;
+    }
+    0
+}
+
+pub fn claim_ticket(
+    mut house: House,
+    rows: &mut [u64; 3200],
+    marks: &mut [u8; 16000],
+    ticket: u32,
+) -> Outcome
+    requires { ⌜ Reached (view house (now rows) (now marks)) ⌝ }
+    ensures { λ r. ⌜ Carried house (now (rows .entry)) (now (marks .entry)) (claim ticket) (r .house) (now (rows .exit)) (now (marks .exit)) (r .answer) ⌝ }
+{
+    let found = look_up(house, rows, ticket);
+    if found.code != 0 {
+        return refused(house, found.code);
+    }
+    let place = found.place;
+    let row = read_row(rows, place);
+    let code = claim_code(house.game, row);
+    if code != 0 {
+        return refused(house, code);
+    }
+    remove_ticket(rows, marks, house.live as usize, place);
+    let live = house.live - 1;
+    let paid = house.counters.paid + row.due;
+    house.live = live;
+    house.counters.paid = paid;
+    accepted(house, ticket, row.due)
+}

@@ -1,0 +1,93 @@
+// Expire: finished tickets that nobody claimed in time are dropped, and their dues are unclaimed money.
+use house::answer::Outcome;
+use house::answer::accepted;
+use house::answer::refused;
+use house::rows::move_ticket;
+use house::state::House;
+ghost use mathlib.Core.Path.{_≡_};
+ghost use mathlib.Core.Bool.{_&&_};
+ghost use mathlib.Core.List.{List, map};
+ghost use Prim.Native.Nat.{ℕ, _+_, _-_, _^_, _≤_, _<_, max};
+ghost use lib.Dec.{ltb, eqb};
+ghost use Rattle.rules.specs.Lists.{sum};
+ghost use Rattle.house.specs.Model.{Model};
+ghost use Rattle.house.specs.Commands.{isExpired, expire};
+ghost use Rattle.house.specs.Balance.{Reached};
+ghost use Rattle.house.specs.View.{ticketIn, view};
+ghost use Rattle.house.specs.Parts.{Carried};
+ghost use Rattle.tickets.specs.Steps.{Swept};
+
+// How many tickets stay, and the dues of the others.
+struct Sweep {
+    left: usize,
+    cents: u64,
+}
+
+// Whether a ticket of these games is finished, and its finishing day + 365 is less than today. No day is added to, so none is too large.
+fn has_expired(game: u64, day: u64, first: u64, stop: u64, finished: u64) -> bool
+    ensures { λ r. ⌜ r ≡ eqb (stop - max first game) 0 && ltb (finished + 365) day ⌝ }
+{
+    if day < 365 {
+        return false;
+    }
+    if day - 365 <= finished {
+        return false;
+    }
+    if stop <= game {
+        return true;
+    }
+    stop <= first
+}
+
+// Whether the ticket at a place has expired.
+fn row_expires(rows: &[u64; 3200], i: usize, game: u64, day: u64) -> bool
+    requires { ⌜ i < 200 ⌝ }
+    ensures { λ r. ⌜ ((m : Model) (marks : List ℕ) → m .game ≡ game → m .day ≡ day → r ≡ isExpired m (ticketIn (now (rows .entry)) marks i)) ⌝ }
+{
+    let at = i * 16;
+    has_expired(game, day, rows[at + 9], rows[at + 10], rows[at + 13])
+}
+
+// The live tickets without those that have expired: the others move down.
+fn drop_expired(house: House, rows: &mut [u64; 3200], marks: &mut [u8; 16000]) -> Sweep
+    requires { ⌜ (house .live ≤ 200) × (sum (map (λ t. t .due) (view house (now rows) (now marks) .live)) < 2 ^ 62) ⌝ }
+    ensures { λ r. ⌜ Swept (view house (now (rows .entry)) (now (marks .entry))) (now (rows .exit)) (now (marks .exit)) (r .left) (r .cents) ⌝ }
+{
+    let game = house.game;
+    let day = house.day;
+    let live = house.live as usize;
+    let mut left: usize = 0;
+    let mut cents: u64 = 0;
+    let mut i: usize = 0;
+    while i < live {
+        if row_expires(rows, i, game, day) {
+            let at = i * 16;
+            cents = cents + rows[at + 12];
+            i += 1;
+            continue;
+        }
+        move_ticket(rows, marks, i, left);
+        left += 1;
+        i += 1;
+    }
+    Sweep { left, cents }
+}
+
+// How many live tickets expire, and their dues, which go to the unclaimed fund; or the refusal.
+pub fn expire_tickets(mut house: House, rows: &mut [u64; 3200], marks: &mut [u8; 16000]) -> Outcome
+    requires { ⌜ Reached (view house (now rows) (now marks)) ⌝ }
+    ensures { λ r. ⌜ Carried house (now (rows .entry)) (now (marks .entry)) expire (r .house) (now (rows .exit)) (now (marks .exit)) (r .answer) ⌝ }
+{
+    let day = house.day;
+    if day == 0 {
+        return refused(house, 4);
+    }
+    let sweep = drop_expired(house, rows, marks);
+    let left = sweep.left as u64;
+    let cents = sweep.cents;
+    let gone = house.live - left;
+    let unclaimed = house.counters.unclaimed + cents;
+    house.live = left;
+    house.counters.unclaimed = unclaimed;
+    accepted(house, gone as u32, cents)
+}

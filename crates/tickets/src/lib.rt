@@ -1,0 +1,6 @@
+// The commands on tickets: Sell, Cancel, Claim and Expire.
+pub mod cancel;
+pub mod claim;
+pub mod expire;
+pub mod lookup;
+pub mod sell;

@@ -1,0 +1,124 @@
+// Sell: the checks in the order of their numbers, and then one ticket more behind the live ones.
+use house::answer::Outcome;
+use house::answer::accepted;
+use house::answer::refused;
+use house::rows::Row;
+use house::rows::append_ticket;
+use house::state::House;
+use rules::check::quote_for;
+use rules::marks::group_sizes;
+use rules::price::paid_games;
+use rules::terms::Kind;
+use rules::terms::Terms;
+use rules::ways::jackpot_of;
+ghost use mathlib.Core.Path.{_≡_};
+ghost use mathlib.Core.List.{List};
+ghost use Prim.Native.Nat.{ℕ, _+_, _≤_};
+ghost use lib.ListN.{length};
+ghost use Rattle.rules.specs.Ways.{ways};
+ghost use Rattle.rules.specs.Checks.{Operands, operandCode};
+ghost use Rattle.house.specs.Model.{gameLimit, ticketLimit};
+ghost use Rattle.house.specs.Commands.{sell, codeOf, soldTicket};
+ghost use Rattle.house.specs.Balance.{Reached};
+ghost use Rattle.house.specs.View.{view, ticketFrom};
+ghost use Rattle.house.specs.Parts.{Carried};
+
+// The refusal's number on an open day, or 0, where `quoted` is that of the operands alone.
+fn sale_code(house: House, games: u8, quoted: u8) -> u8
+    requires { ⌜ (house .game ≤ gameLimit + 1) × (house .day ≡ 0 → ⊥) ⌝ }
+    ensures { λ r. ⌜ ((words marks : List ℕ) (o : Operands) → o .games ≡ games → operandCode o ≡ quoted → r ≡ codeOf (view house words marks) (sell o)) ⌝ }
+{
+    if quoted != 0 {
+        return quoted;
+    }
+    let live = house.live;
+    if House::LIVE_LIMIT <= live {
+        return 16;
+    }
+    let issued = house.issued;
+    if House::TICKET_LIMIT <= issued {
+        return 17;
+    }
+    if House::GAME_LIMIT + 1 < house.first_game() + games as u64 {
+        return 17;
+    }
+    0
+}
+
+// The row of a new ticket, which makes `count` ways.
+fn sold_row(
+    house: House,
+    count: u32,
+    kind: u8,
+    games: u8,
+    stake: u32,
+    groups: u8,
+    types: u8,
+    from: &[u8],
+) -> Row
+    requires { ⌜ (house .game ≤ gameLimit + 1) × (house .issued ≤ ticketLimit) × (groups ≤ 8) × (length (now from) ≡ 80) × (count ≡ length (ways groups types)) ⌝ }
+    ensures { λ r. ⌜ ((words marks : List ℕ) → ticketFrom r (now (from .entry)) ≡ soldTicket (view house words marks) (record { kind = kind; games = games; stake = stake; groups = groups; types = types; marks = now (from .entry) })) ⌝ }
+{
+    let first = house.first_game();
+    let terms = Terms {
+        kind: Kind::of(kind),
+        games,
+        stake,
+        groups,
+        types,
+    };
+    let jackpot = jackpot_of(terms, group_sizes(from));
+    let paid = paid_games(games);
+    Row {
+        number: house.issued + 1,
+        kind: kind as u64,
+        games: games as u64,
+        stake: stake as u64,
+        groups: groups as u64,
+        types: types as u64,
+        ways: count as u64,
+        jackpot: jackpot as u64,
+        sold: house.day,
+        first,
+        stop: first + games as u64,
+        free: first + paid as u64,
+        due: 0,
+        finished: 0,
+    }
+}
+
+// A ticket for its first game and those after it, numbered by the sales so far, for which the charge is taken; or the refusal.
+pub fn sell_ticket(
+    mut house: House,
+    rows: &mut [u64; 3200],
+    marks: &mut [u8; 16000],
+    kind: u8,
+    games: u8,
+    stake: u32,
+    groups: u8,
+    types: u8,
+    from: &[u8],
+) -> Outcome
+    requires { ⌜ Reached (view house (now rows) (now marks)) ⌝ }
+    ensures { λ r. ⌜ Carried house (now (rows .entry)) (now (marks .entry)) (sell (record { kind = kind; games = games; stake = stake; groups = groups; types = types; marks = now (from .entry) })) (r .house) (now (rows .exit)) (now (marks .exit)) (r .answer) ⌝ }
+{
+    let day = house.day;
+    if day == 0 {
+        return refused(house, 4);
+    }
+    let quote = quote_for(kind, games, stake, groups, types, from);
+    let code = sale_code(house, games, quote.code);
+    if code != 0 {
+        return refused(house, code);
+    }
+    let row = sold_row(house, quote.ways, kind, games, stake, groups, types, from);
+    let live = house.live;
+    append_ticket(rows, marks, live as usize, row, from);
+    let number = house.issued + 1;
+    let charge = quote.charge as u64;
+    let taken = house.counters.taken + charge;
+    house.issued = number;
+    house.live = live + 1;
+    house.counters.taken = taken;
+    accepted(house, number as u32, charge)
+}
