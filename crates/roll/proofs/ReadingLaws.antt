@@ -1,0 +1,307 @@
+-- Reading a roll from some place on: what one turn does, told from what the decoder answers there, and how the whole reading is what was
+-- answered so far and the reading of what is left.
+use Prim.Native.Nat.{ℕ, zero, suc, _+_, _-_, _*_, _≤_, _<_}
+use native.Mathlib.Numerals.{add-one}
+use native.Mathlib.Omega.{arith}
+use mathlib.Core.Path.{_≡_, refl, sym, ap, ap₂, subst, _∙_}
+use mathlib.Core.Bool.{Bool, true, false, cond, not}
+use mathlib.Core.List.{List, [], _∷_, _++_, append-assoc, append-nil}
+use lib.Dec.{ltb, eqb}
+use lib.ListN.{length, getD, take, drop, take-append-drop, length-append, length-take, length-drop, drop-of-length-le}
+use lib.Seq.{length-take-le, take-all, drop-drop, drop-at, take-at, getD-drop}
+use borrow.Author.Tests.{lt-ltb, le-ltb, eqb-true, eq-eqb}
+use borrow.Rule.Slice.PartMut.{putMid}
+use Rattle.house.specs.Model.{Model}
+use Rattle.house.specs.Commands.{step}
+use Rattle.commands.specs.Meant.{meant}
+use Rattle.house.specs.declared.answer.Answer.{Answer}
+use Rattle.commands.specs.declared.command.Command.{Command}
+use Rattle.roll.specs.Bytes.{bytesOf}
+use Rattle.roll.specs.Decode.{isKnown, operandBytes, commandOf, recordOf}
+use Rattle.roll.specs.Reading.{Reading, stopped, answered, readTurns, readRoll}
+use Rattle.roll.specs.Orders.{orderOf, decodedAt, verdictOf, Reported}
+use Rattle.roll.specs.declared.decode.Decoded.the-variants.{Whole, Stop}
+use Rattle.roll.specs.declared.reader.Verdict.the-variants.{Carried, Refused}
+use Rattle.roll.proofs.DecodeLaws.{order-meant, Stands}
+
+-- ---- one turn
+
+-- a command of so many bytes answered, and the reading of what is left
+abbrev pub answeredBy : ℕ → Model → List ℕ → ℕ → Rattle.house.specs.Commands.Command → ℕ → List ℕ → Reading
+answeredBy turns m book size c byte rest =
+    answered size c (recordOf byte (step m c .answer)) (readTurns turns (step m c .house) rest (drop 14 book))
+
+-- nothing whole stands there
+pub turn-stops :
+    (turns : ℕ) (m : Model) (roll book : List ℕ) (code : ℕ)
+    → decodedAt roll ≡ Stop code
+    → readTurns (suc turns) m roll book ≡ stopped m code book
+unfolding decodedAt readTurns
+turn-stops turns m [] book code e = let same : 0 ≡ code = cc in ap (λ k. stopped m k book) same
+turn-stops turns m (byte ∷ rest) book code e =
+    go (not (isKnown byte)) (ltb (length rest) (operandBytes byte)) (orderOf byte (take (operandBytes byte) rest)) (operandBytes byte + 1) _ e
+  where
+    go :
+        (unknown short : Bool) (order : Command) (size : ℕ) (more : Reading)
+        → cond unknown (Stop 1) (cond short (Stop 2) (Whole order size)) ≡ Stop code
+        → cond unknown (stopped m 1 book) (cond short (stopped m 2 book) more) ≡ stopped m code book
+    go true short order size more e = let same : 1 ≡ code = cc in ap (λ k. stopped m k book) same
+    go false true order size more e = let same : 2 ≡ code = cc in ap (λ k. stopped m k book) same
+    go false false order size more e = let z : _≡_ {A = ℕ} 0 1 = cc in absurd (omega arith)
+
+-- a known command with all its bytes, and room for its answer
+turn-known :
+    (turns : ℕ) (m : Model) (byte : ℕ) (rest book : List ℕ)
+    → isKnown byte ≡ true
+    → operandBytes byte ≤ length rest
+    → 14 ≤ length book
+    → readTurns (suc turns) m (byte ∷ rest) book
+    ≡ answeredBy turns m book (1 + operandBytes byte) (commandOf byte (take (operandBytes byte) rest)) byte (drop (operandBytes byte) rest)
+unfolding readTurns
+turn-known turns m byte rest book known enough room =
+    rw (known, le-ltb (length rest) (operandBytes byte) enough, le-ltb (length book) 14 room)
+
+module _ (turns : ℕ) (m : Model) (roll book : List ℕ) (order : Command) (size : ℕ) (s : Stands roll order size) where
+  -- no room for an answer
+  pub turn-full : length book < 14 → readTurns (suc turns) m roll book ≡ stopped m 3 book
+  unfolding readTurns
+  turn-full full =
+      rw (s .begins, s .known, le-ltb (length (s .rest)) (operandBytes (s .byte)) (s .enough), lt-ltb (length book) 14 full)
+
+  -- the bytes of the command, its byte first
+  command-bytes : take size roll ≡ s .byte ∷ take (operandBytes (s .byte)) (s .rest)
+  command-bytes = rw (s .begins, s .long, add-one (operandBytes (s .byte)))
+
+  after-command : drop size roll ≡ drop (operandBytes (s .byte)) (s .rest)
+  after-command = rw (s .begins, s .long, add-one (operandBytes (s .byte)))
+
+  -- the command answered, with Sell's marks beside it
+  pub turn-answers :
+      (marks : List ℕ)
+      → 14 ≤ length book
+      → marks ≡ drop 9 (take size roll)
+      → readTurns (suc turns) m roll book ≡ answeredBy turns m book size (meant order marks) (getD roll 0 0) (drop size roll)
+  turn-answers marks room same =
+      let bytes = take (operandBytes (s .byte)) (s .rest) in
+      let beside : marks ≡ drop 8 bytes = same ∙ ap (drop 9) command-bytes in
+      let command = sym (ap₂ meant (s .is) beside ∙ order-meant (s .byte) bytes) in
+      let long : 1 + operandBytes (s .byte) ≡ size = omega (arith, s .long) in
+      let byte = sym (ap (λ l. getD l 0 0) (s .begins)) in
+      let later = sym after-command in
+      ap (λ l. readTurns (suc turns) m l book) (s .begins)
+      ∙ turn-known turns m (s .byte) (s .rest) book (s .known) (s .enough) room
+      ∙ (λ i. answeredBy turns m book (long i) (command i) (byte i) (later i))
+
+-- ---- a record written after others
+
+pub record-long : (byte : ℕ) (a : Answer) → length (recordOf byte a) ≡ 14
+unfolding recordOf bytesOf
+record-long byte a = refl
+
+module _ (front entry back : List ℕ) (n : ℕ) (long : length front + length entry ≡ n) where
+  both-long : length (front ++ entry) ≡ n
+  both-long = length-append front entry ∙ long
+
+  through-entry : take n (front ++ (entry ++ back)) ≡ front ++ entry
+  through-entry = ap (take n) (sym (append-assoc front entry back)) ∙ take-at (front ++ entry) back n both-long
+
+  past-entry : drop n (front ++ (entry ++ back)) ≡ back
+  past-entry = ap (drop n) (sym (append-assoc front entry back)) ∙ drop-at (front ++ entry) back n both-long
+
+-- a record that was written into the last part of a book, from a place on
+module _ (book entry : List ℕ) (at : ℕ) (long : length entry ≡ 14) (room : at + 14 ≤ length book) where
+  part-whole : take (length book - at) (drop at book) ≡ drop at book
+  part-whole = take-all (length book - at) (drop at book) (omega (arith, length-drop at book))
+
+  part-rest : drop (length book - at) (drop at book) ≡ []
+  part-rest =
+      let within : length (drop at book) ≤ length book - at = omega (arith, length-drop at book) in
+      drop-of-length-le (drop at book) within
+
+  pub part-written :
+      (part : List ℕ)
+      → part ≡ entry ++ drop 14 (take (length book - at) (drop at book))
+      → putMid at (length book - at) book part ≡ take at book ++ (entry ++ drop 14 (drop at book))
+  part-written part written =
+      let same = ap₂ _++_ (written ∙ ap (λ l. entry ++ drop 14 l) part-whole) part-rest in
+      ap (λ l. take at book ++ l) (same ∙ append-nil (entry ++ drop 14 (drop at book)))
+
+  pub book-long : length (take at book ++ (entry ++ drop 14 (drop at book))) ≡ length book
+  book-long =
+      omega (
+        arith,
+        long,
+        length-append (take at book) (entry ++ drop 14 (drop at book)),
+        length-append entry (drop 14 (drop at book)),
+        length-take-le at book (omega arith),
+        length-drop 14 (drop at book),
+        length-drop at book,
+      )
+
+-- ---- verdicts
+
+pub verdict-carried :
+    (a : Answer) (number cents : ℕ) → verdictOf a ≡ Carried number cents → record { code = 0; number = number; cents = cents } ≡ a
+unfolding verdictOf
+verdict-carried a number cents e = go (eqb (a .code) 0) refl e
+  where
+    go :
+        (carried : Bool)
+        → eqb (a .code) 0 ≡ carried
+        → cond carried (Carried (a .number) (a .cents)) (Refused (a .code)) ≡ Carried number cents
+        → record { code = 0; number = number; cents = cents } ≡ a
+    go true p q =
+        let code : 0 ≡ a .code = sym (eqb-true (a .code) 0 p) in
+        let n : number ≡ a .number = cc in
+        let k : cents ≡ a .cents = cc in
+        λ i. record { code = code i; number = n i; cents = k i }
+    go false p q = let z : _≡_ {A = ℕ} 0 1 = cc in absurd (omega arith)
+
+pub verdict-refused : (a : Answer) (code : ℕ) → verdictOf a ≡ Refused code → a .code ≡ 0 → ⊥
+unfolding verdictOf
+verdict-refused a code e zero-code =
+    let carried : Carried (a .number) (a .cents) ≡ Refused code = rw (eq-eqb (a .code) 0 zero-code) at e in
+    let z : _≡_ {A = ℕ} 0 1 = cc in
+    absurd (omega arith)
+
+-- ---- the whole reading, by what is left of it
+
+-- a reading that some answers stand before
+pub record Joins (whole left : Reading) (front : List ℕ) (read answers : ℕ) : Type 0 where
+  pub house : whole .house ≡ left .house
+  pub stop : whole .stop ≡ left .stop
+  pub bytes : whole .read ≡ read + left .read
+  pub count : whole .answers ≡ answers + left .answers
+  pub text : whole .book ≡ front ++ left .book
+
+-- so many bytes were read and so many answers written, and the rest of the reading is that of what is left
+pub record Ahead (whole : Reading) (m : Model) (roll book : List ℕ) (read answers : ℕ) : Type 0 where
+  pub turns : ℕ
+  pub enough : length roll < read + turns
+  pub within : read ≤ length roll
+  pub room : answers * 14 ≤ length book
+  pub joins : Joins whole (readTurns turns m (drop read roll) (drop (answers * 14) book)) (take (answers * 14) book) read answers
+
+pub ahead-starts : (m : Model) (roll book : List ℕ) → Ahead (readRoll m roll book) m roll book 0 0
+ahead-starts m roll book =
+    record {
+      turns = length roll + 1;
+      enough = omega arith;
+      within = omega arith;
+      room = omega arith;
+      joins = record { house = refl; stop = refl; bytes = omega arith; count = omega arith; text = refl };
+    }
+
+first-byte : (l : List ℕ) (at : ℕ) → getD (drop at l) 0 0 ≡ getD l at 0
+first-byte l at =
+    let here : at + 0 ≡ at = omega arith in
+    getD-drop at l 0 0 ∙ ap (λ n. getD l n 0) here
+
+-- an answered command is passed, with its record in the book
+next-ahead :
+    (whole : Reading) (m : Model) (roll book : List ℕ) (read answers : ℕ) (c : Rattle.house.specs.Commands.Command) (size : ℕ) (book′ : List ℕ) (turns : ℕ)
+    → answers * 14 + 14 ≤ length book
+    → 0 < size
+    → length roll < read + suc turns
+    → read + size ≤ length roll
+    → Joins whole (answeredBy turns m (drop (answers * 14) book) size c (getD roll read 0) (drop size (drop read roll))) (take (answers * 14) book) read answers
+    → book′ ≡ take (answers * 14) book ++ (recordOf (getD roll read 0) (step m c .answer) ++ drop 14 (drop (answers * 14) book))
+    → Ahead whole (step m c .house) roll book′ (read + size) (answers + 1)
+next-ahead whole m roll book read answers c size book′ turns room some enough within j written =
+    let front = take (answers * 14) book in
+    let entry = recordOf (getD roll read 0) (step m c .answer) in
+    let back = drop 14 (drop (answers * 14) book) in
+    let left = readTurns turns (step m c .house) (drop size (drop read roll)) back in
+    let front-long = length-take-le (answers * 14) book (omega arith) in
+    let long : length front + length entry ≡ (answers + 1) * 14 = omega (arith, front-long, record-long (getD roll read 0) (step m c .answer)) in
+    let through = ap (take ((answers + 1) * 14)) written ∙ through-entry front entry back ((answers + 1) * 14) long in
+    let past = ap (drop ((answers + 1) * 14)) written ∙ past-entry front entry back ((answers + 1) * 14) long in
+    let same : left ≡ readTurns turns (step m c .house) (drop (read + size) roll) (drop ((answers + 1) * 14) book′) =
+    ap₂ (readTurns turns (step m c .house)) (drop-drop size read roll) (sym past) in
+    record {
+      turns = turns;
+      enough = omega arith;
+      within = within;
+      room = omega (arith, long, ap length through, length-append front entry, length-take ((answers + 1) * 14) book′);
+      joins =
+          record {
+            house = j .house ∙ ap (λ r. r .house) same;
+            stop = j .stop ∙ ap (λ r. r .stop) same;
+            bytes = omega (arith, j .bytes, ap (λ r. r .read) same);
+            count = omega (arith, j .count, ap (λ r. r .answers) same);
+            text =
+                j .text
+                ∙ sym (append-assoc front entry (left .book))
+                ∙ ap₂ _++_ (sym through) (ap (λ r. r .book) same);
+          };
+    }
+
+module _ (whole : Reading) (m : Model) (roll book : List ℕ) (read answers : ℕ) (a : Ahead whole m roll book read answers) where
+  abbrev done : ℕ
+  done = answers * 14
+
+  ends : (code : ℕ) → Joins whole (stopped m code (drop done book)) (take done book) read answers → Reported whole m code read answers book
+  ends code j =
+      record {
+        house = sym (j .house);
+        stop = sym (j .stop);
+        read = omega (arith, j .bytes);
+        answers = omega (arith, j .count);
+        book = sym (j .text ∙ take-append-drop done book);
+      }
+
+  -- the last turn
+  pub ahead-stops : (code : ℕ) → decodedAt (drop read roll) ≡ Stop code → Reported whole m code read answers book
+  ahead-stops code decoded = go (a .turns) (a .enough) (a .joins)
+    where
+      go :
+          (turns : ℕ)
+          → length roll < read + turns
+          → Joins whole (readTurns turns m (drop read roll) (drop done book)) (take done book) read answers
+          → Reported whole m code read answers book
+      go zero enough j = absurd (omega (arith, a .within))
+      go (suc turns) enough j =
+          ends code
+          (subst (λ r. Joins whole r (take done book) read answers) (turn-stops turns m (drop read roll) (drop done book) code decoded) j)
+
+  module _ (order : Command) (size : ℕ) (s : Stands (drop read roll) order size) where
+    pub ahead-full : length book < done + 14 → Reported whole m 3 read answers book
+    ahead-full full = go (a .turns) (a .enough) (a .joins)
+      where
+        go :
+            (turns : ℕ)
+            → length roll < read + turns
+            → Joins whole (readTurns turns m (drop read roll) (drop done book)) (take done book) read answers
+            → Reported whole m 3 read answers book
+        go zero enough j = absurd (omega (arith, a .within))
+        go (suc turns) enough j =
+            ends 3
+            (subst (λ r. Joins whole r (take done book) read answers)
+            (turn-full turns m (drop read roll) (drop done book) order size s (omega (arith, length-drop done book))) j)
+
+    -- the command ends within the roll
+    pub command-within : read + size ≤ length roll
+    command-within = omega (arith, s .long, s .enough, ap length (s .begins), length-drop read roll, a .within)
+
+    -- one more answer, its record written after the others
+    pub ahead-more :
+        (marks book′ : List ℕ)
+        → done + 14 ≤ length book
+        → marks ≡ drop 9 (take size (drop read roll))
+        → book′
+        ≡ take done book
+        ++ (recordOf (getD roll read 0) (step m (meant order marks) .answer) ++ drop 14 (drop done book))
+        → Ahead whole (step m (meant order marks) .house) roll book′ (read + size) (answers + 1)
+    ahead-more marks book′ room same written = go (a .turns) (a .enough) (a .joins)
+      where
+        go :
+            (turns : ℕ)
+            → length roll < read + turns
+            → Joins whole (readTurns turns m (drop read roll) (drop done book)) (take done book) read answers
+            → Ahead whole (step m (meant order marks) .house) roll book′ (read + size) (answers + 1)
+        go zero enough j = absurd (omega (arith, a .within))
+        go (suc turns) enough j = next-ahead whole m roll book read answers (meant order marks) size book′ turns room (omega (arith, s .long)) enough command-within
+            (subst (λ r. Joins whole r (take done book) read answers)
+            (turn-answers turns m (drop read roll) (drop done book) order size s marks (omega (arith, length-drop done book)) same
+            ∙ ap (λ b. answeredBy turns m (drop done book) size (meant order marks) b (drop size (drop read roll))) (first-byte roll read)) j)
+            written

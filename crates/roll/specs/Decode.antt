@@ -1,0 +1,50 @@
+-- The table of commands: "01h Open: day (2); 02h Sell: kind (1), games (1), stake (4), groups (1), types (1), marks (80); 03h Cancel: ticket (4);
+-- 04h Ball: number (1); 05h Claim: ticket (4); 06h Expire; 07h Transfer: jackpot 6 or 8 (1), cents (4)", and "writes 14 bytes each [..]: command
+-- byte, code (0 or the refusal), number (4), cents (8)".
+use Prim.Native.Nat.{ℕ}
+use mathlib.Core.Bool.{Bool, cond, _&&_}
+use mathlib.Core.List.{List, _∷_, _++_}
+use lib.Dec.{leb, eqb}
+use lib.ListN.{getD, take, drop}
+use Rattle.rules.specs.Checks.{Operands}
+use Rattle.house.specs.Commands.{Command, open′, sell, cancel, ball, claim, expire, transfer}
+use Rattle.house.specs.declared.answer.Answer.{Answer}
+use Rattle.roll.specs.Bytes.{numberOf, bytesOf}
+
+abbrev pub isKnown : ℕ → Bool
+isKnown byte = leb 1 byte && leb byte 7
+
+-- how many operand bytes follow a known command byte
+unfoldable pub operandBytes : ℕ → ℕ
+operandBytes byte =
+    cond (eqb byte 1) 2
+    (cond (eqb byte 2) 88
+    (cond (eqb byte 3) 4
+    (cond (eqb byte 4) 1
+    (cond (eqb byte 5) 4
+    (cond (eqb byte 6) 0 5)))))
+
+abbrev pub saleOf : List ℕ → Operands
+saleOf bytes =
+    record {
+      kind = getD bytes 0 0;
+      games = getD bytes 1 0;
+      stake = numberOf (take 4 (drop 2 bytes));
+      groups = getD bytes 6 0;
+      types = getD bytes 7 0;
+      marks = drop 8 bytes;
+    }
+
+-- a known command byte with its operand bytes
+unfoldable pub commandOf : ℕ → List ℕ → Command
+commandOf byte bytes =
+    cond (eqb byte 1) (open′ (numberOf bytes))
+    (cond (eqb byte 2) (sell (saleOf bytes))
+    (cond (eqb byte 3) (cancel (numberOf bytes))
+    (cond (eqb byte 4) (ball (getD bytes 0 0))
+    (cond (eqb byte 5) (claim (numberOf bytes))
+    (cond (eqb byte 6) expire (transfer (getD bytes 0 0) (numberOf (drop 1 bytes))))))))
+
+-- an answer's 14 bytes
+unfoldable pub recordOf : ℕ → Answer → List ℕ
+recordOf byte a = byte ∷ a .code ∷ bytesOf 4 (a .number) ++ bytesOf 8 (a .cents)

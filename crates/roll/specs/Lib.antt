@@ -1,0 +1,5 @@
+pub mod Bytes
+pub mod Decode
+pub mod Reading
+pub mod Balance
+pub mod Orders

@@ -1,0 +1,65 @@
+-- What the decoder answers, and what the reader's parts leave: the definitions that the contracts of this crate's functions cite.
+use Prim.Native.Nat.{ℕ, _+_}
+use mathlib.Core.Path.{_≡_}
+use mathlib.Core.Bool.{cond, not}
+use mathlib.Core.List.{List, [], _∷_}
+use lib.Dec.{ltb, eqb}
+use lib.ListN.{length, take, drop, getD}
+use Rattle.commands.specs.declared.command.Sale.{Sale}
+use Rattle.commands.specs.declared.command.Command.{Command}
+use Rattle.commands.specs.declared.command.Command.the-variants.{Open, Sell, Cancel, Ball, Claim, Expire, Transfer}
+use Rattle.house.specs.declared.answer.Answer.{Answer}
+use Rattle.house.specs.Model.{Model}
+use Rattle.roll.specs.Bytes.{numberOf}
+use Rattle.roll.specs.Decode.{isKnown, operandBytes}
+use Rattle.roll.specs.Reading.{Reading}
+use Rattle.roll.specs.declared.decode.Decoded.{Decoded}
+use Rattle.roll.specs.declared.decode.Decoded.the-variants.{Whole, Stop}
+use Rattle.roll.specs.declared.reader.Verdict.{Verdict}
+use Rattle.roll.specs.declared.reader.Verdict.the-variants.{Carried, Refused}
+
+-- Sell's operands up to the marks
+abbrev pub saleIn : List ℕ → Sale
+saleIn bytes =
+    record {
+      kind = getD bytes 0 0;
+      games = getD bytes 1 0;
+      stake = numberOf (take 4 (drop 2 bytes));
+      groups = getD bytes 6 0;
+      types = getD bytes 7 0;
+    }
+
+-- a known command byte with its operand bytes, as the code has it; Sell's marks stand beside it
+unfoldable pub orderOf : ℕ → List ℕ → Command
+orderOf byte bytes =
+    cond (eqb byte 1) (Open (numberOf bytes))
+    (cond (eqb byte 2) (Sell (saleIn bytes))
+    (cond (eqb byte 3) (Cancel (numberOf bytes))
+    (cond (eqb byte 4) (Ball (getD bytes 0 0))
+    (cond (eqb byte 5) (Claim (numberOf bytes))
+    (cond (eqb byte 6) Expire (Transfer (getD bytes 0 0) (numberOf (drop 1 bytes))))))))
+
+-- what stands at the start of a part of a roll
+unfoldable pub decodedAt : List ℕ → Decoded
+decodedAt [] = Stop 0
+decodedAt (byte ∷ rest) =
+    cond (not (isKnown byte)) (Stop 1)
+    (cond (ltb (length rest) (operandBytes byte)) (Stop 2)
+    (Whole (orderOf byte (take (operandBytes byte) rest)) (operandBytes byte + 1)))
+
+-- the stop code of what is no whole command
+abbrev pub stopOf : Decoded → ℕ
+stopOf (Whole order size) = 0
+stopOf (Stop code) = code
+
+-- how a command ended, from its answer
+unfoldable pub verdictOf : Answer → Verdict
+verdictOf a = cond (eqb (a .code) 0) (Carried (a .number) (a .cents)) (Refused (a .code))
+
+-- a reading as the reader reports it: the house after it, the stop code, bytes read, answers written, and the whole book
+pub record Reported (whole : Reading) (after : Model) (code bytes count : ℕ) (written : List ℕ) : Type 0 where
+  pub house : after ≡ whole .house
+  pub stop : code ≡ whole .stop
+  pub read : bytes ≡ whole .read
+  pub answers : count ≡ whole .answers
+  pub book : written ≡ whole .book

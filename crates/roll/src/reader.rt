@@ -1,0 +1,124 @@
+// The reader: runs the commands of a lent roll and writes their answers into a lent book.
+use crate::decode::Decoded;
+use crate::decode::decode;
+use crate::record::write_record;
+use commands::command::carry_out;
+use house::answer::Answer;
+use house::state::House;
+ghost use mathlib.Core.Path.{_≡_};
+ghost use Prim.Native.Nat.{_+_, _≤_};
+ghost use lib.ListN.{length, take, drop};
+ghost use Rattle.house.specs.Balance.{Reached};
+ghost use Rattle.house.specs.View.{view};
+ghost use Rattle.roll.specs.Reading.{readRoll};
+ghost use Rattle.roll.specs.Orders.{stopOf, verdictOf, Reported};
+
+// The house after a roll, the stop code, the bytes of the answered commands, and how many answers were written.
+#[repr(C)]
+pub struct Report {
+    pub house: House,
+    pub stop: u8,
+    pub read: usize,
+    pub answers: usize,
+}
+
+// How a command ended: carried out, with its number and cents, or refused.
+enum Verdict {
+    Carried(u32, u64),
+    Refused(u8),
+}
+
+fn verdict_of(answer: Answer) -> Verdict
+    ensures { λ r. ⌜ r ≡ verdictOf answer ⌝ }
+{
+    let code = answer.code;
+    if code == 0 {
+        return Verdict::Carried(answer.number, answer.cents);
+    }
+    Verdict::Refused(code)
+}
+
+fn stop_code(decoded: Decoded) -> u8
+    ensures { λ r. ⌜ r ≡ stopOf decoded ⌝ }
+{
+    match decoded {
+        Decoded::Whole(_, _) => 0,
+        Decoded::Stop(code) => code,
+    }
+}
+
+// Of a command's bytes, those after the first nine: the marks of a Sell.
+fn marks_of(roll: &[u8], at: usize, size: usize) -> &[u8]
+    requires { ⌜ at + size ≤ length (now roll) ⌝ }
+    ensures { λ r. ⌜ now r ≡ drop 9 (take size (drop at (now (roll .entry)))) ⌝ }
+{
+    let end = at + size;
+    if size < 9 {
+        return &roll[end..end];
+    }
+    let start = at + 9;
+    &roll[start..end]
+}
+
+impl Report {
+    // The part of the roll that was not read, from the caller's roll itself.
+    pub fn unread<'a>(self, roll: &'a [u8]) -> &'a [u8]
+        ensures { λ r. ⌜ now r ≡ drop (self .read) (now (roll .entry)) ⌝ }
+    {
+        let read = self.read;
+        if roll.len() <= read {
+            return &roll[0..0];
+        }
+        &roll[read..]
+    }
+}
+
+// Reads a roll until it ends, a byte is unknown, too few bytes are left or the book has no room for an answer.
+pub fn read_roll(
+    house: House,
+    rows: &mut [u64; 3200],
+    marks: &mut [u8; 16000],
+    roll: &[u8],
+    book: &mut [u8],
+) -> Report
+    requires { ⌜ Reached (view house (now rows) (now marks)) ⌝ }
+    ensures { λ r. ⌜ Reported (readRoll (view house (now (rows .entry)) (now (marks .entry))) (now (roll .entry)) (now (book .entry))) (view (r .house) (now (rows .exit)) (now (marks .exit))) (r .stop) (r .read) (r .answers) (now (book .exit)) ⌝ }
+{
+    let mut here = house;
+    let mut read = 0;
+    let mut answers = 0;
+    loop {
+        let decoded = decode(roll, read);
+        let Decoded::Whole(command, size) = decoded else {
+            let stop = stop_code(decoded);
+            return Report {
+                house: here,
+                stop,
+                read,
+                answers,
+            };
+        };
+        let written = answers * 14;
+        if book.len() - written < 14 {
+            return Report {
+                house: here,
+                stop: 3,
+                read,
+                answers,
+            };
+        }
+        let byte = roll[read];
+        let from = marks_of(roll, read, size);
+        let outcome = carry_out(here, rows, marks, command, from);
+        here = outcome.house;
+        read += size;
+        answers += 1;
+        let answer = outcome.answer;
+        let code = answer.code;
+        let Verdict::Carried(number, cents) = verdict_of(answer) else {
+            write_record(&mut book[written..], byte, code, 0, 0);
+            continue;
+        };
+        write_record(&mut book[written..], byte, 0, number, cents);
+    }
+}

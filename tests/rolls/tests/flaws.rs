@@ -1,0 +1,38 @@
+//! The test of the tests: every flawed house prints another ledger than the
+//! true one on the rolls meant to find it, and on some mixed roll.
+
+use reference::ledger::{ledger, ledger_of};
+use reference::{Flaw, House};
+use rolls::{mixed, scenarios};
+
+const SEED: u64 = 1998;
+
+fn finds(flaw: Flaw, rolls: &[Vec<u8>]) -> bool {
+    rolls.iter().any(|roll| ledger_of(&mut House::flawed(flaw), roll) != ledger(roll))
+}
+
+#[test]
+fn scenarios_find_their_flaws() {
+    let sets = [
+        (Flaw::SettlesOneGameMore, scenarios::keno_to_go(SEED)),
+        (Flaw::SettlesOneGameMore, scenarios::expiries(SEED)),
+        (Flaw::OneCutRound, scenarios::crowded_cuts(SEED)),
+        (Flaw::CappedJackpot, scenarios::grown_jackpots(SEED)),
+        (Flaw::PoolsAtSale, scenarios::cancels(SEED)),
+        (Flaw::PoolsAtSale, scenarios::keno_to_go(SEED)),
+        (Flaw::OddCentsToLast, scenarios::shared_jackpots(SEED)),
+        (Flaw::OddCentsToLast, scenarios::transfers(SEED)),
+    ];
+    for (flaw, rolls) in sets {
+        assert!(finds(flaw, &rolls), "{flaw:?}");
+    }
+}
+
+#[test]
+fn mixed_rolls_find_every_flaw() {
+    let rolls = mixed::mixed_set(SEED, 60, 1_000);
+    for flaw in Flaw::ALL {
+        assert!(finds(flaw, &rolls), "{flaw:?}");
+    }
+    assert!(!finds(Flaw::None, &rolls));
+}

@@ -1,0 +1,186 @@
+//! Each scenario leads where it says it does.
+
+use reference::command::{BALL, CANCEL, CLAIM, EXPIRE, SELL, TRANSFER};
+use reference::roll::{read_answer, ANSWER_BYTES};
+use reference::settlement::Settlement;
+use reference::{run_roll, Answer, Closing, Command, House, Kind, Standing};
+use rolls::{scenarios, sweeps};
+
+const SEED: u64 = 1998;
+
+/// The answers to a roll, and the house after it.
+fn run(roll: &[u8]) -> (House, Vec<(u8, Answer)>) {
+    let mut house = House::fresh();
+    let mut book = vec![0; roll.len() * ANSWER_BYTES];
+    let report = run_roll(&mut house, roll, &mut book);
+    assert_eq!(report.stop, 0);
+    let records = book[..report.answers * ANSWER_BYTES].chunks_exact(ANSWER_BYTES);
+    (house, records.map(read_answer).collect())
+}
+
+/// How every game of a roll was settled.
+fn settlements(roll: &[u8]) -> Vec<Settlement> {
+    let mut house = House::fresh();
+    let mut settlements = Vec::new();
+    let mut unread = roll;
+    while !unread.is_empty() {
+        let length = reference::command::length(unread[0]).expect("a known command");
+        let answer = house.command(&Command::decode(&unread[..length]));
+        if unread[0] == BALL && answer.code == 0 && answer.number == 20 {
+            settlements.push(house.last_settlement().expect("a game was drawn").clone());
+        }
+        unread = &unread[length..];
+    }
+    settlements
+}
+
+fn count(answers: &[(u8, Answer)], command: u8, code: u8) -> usize {
+    answers.iter().filter(|(byte, answer)| (*byte, answer.code) == (command, code)).count()
+}
+
+#[test]
+fn rolls_fit_the_program() {
+    for roll in rolls::everything(SEED) {
+        if !roll.name.starts_with("overlong") {
+            assert!(roll.bytes.len() <= 65_536, "{}: {}", roll.name, roll.bytes.len());
+        } else {
+            assert!(roll.bytes.len() > 65_536);
+        }
+    }
+}
+
+#[test]
+fn crowded_cuts_take_rounds() {
+    let rolls = scenarios::crowded_cuts(SEED);
+    let all_floored = &settlements(&rolls[0])[0];
+    assert!(all_floored.majors > 10_000);
+    assert_eq!(all_floored.majors, all_floored.floored);
+    for (roll, crowd) in rolls[1..].iter().zip(&scenarios::CROWDS) {
+        let game = &settlements(roll)[0];
+        assert_eq!(game.cut_rounds, crowd.rounds);
+        assert!(0 < game.floored && game.floored < game.majors);
+        let (house, _) = run(roll);
+        assert_eq!(house.tickets().len(), 200);
+        assert!(house.tickets().iter().all(|ticket| ticket.terms.ways.len() == 255));
+    }
+}
+
+#[test]
+fn shared_jackpots_are_shared_with_odd_cents() {
+    let mut shared = 0;
+    for roll in scenarios::shared_jackpots(SEED) {
+        let (house, answers) = run(&roll);
+        assert!(count(&answers, SELL, 0) > 20);
+        let tickets = house.tickets();
+        for game in 1..house.game() {
+            let won =
+                |ticket: &&reference::Ticket| ticket.first_game() == game && ticket.shares() > 0;
+            shared += usize::from(tickets.iter().filter(won).count() > 1);
+        }
+    }
+    assert!(shared > 40, "{shared} games with more than one winning ticket");
+}
+
+#[test]
+fn grown_jackpots_pass_the_cap_and_pay_off_their_debts() {
+    for roll in scenarios::grown_jackpots(SEED) {
+        let (house, _) = run(&roll);
+        let largest = house.tickets().iter().map(|ticket| ticket.shares()).max();
+        assert!(largest > Some(5_000_000), "{largest:?}");
+        assert_eq!(house.pools().six.debt, 0);
+        assert!(house.pools().six.reimbursement > 0);
+        let seeded: i128 = settlements(&roll).iter().map(|game| game.seeded).sum();
+        assert_eq!(seeded, 0, "the secondary stood in for every seed");
+    }
+}
+
+#[test]
+fn keno_to_go_is_played_to_the_end() {
+    for roll in scenarios::keno_to_go(SEED) {
+        let (house, answers) = run(&roll);
+        assert!(count(&answers, CANCEL, 21) > 0);
+        for games in [49, 50, 99, 100] {
+            let played = house.tickets().iter().filter(|ticket| {
+                ticket.terms.games == games && ticket.closing == Some(Closing::Claimed)
+            });
+            assert!(played.count() > 0, "{games} games");
+        }
+        let free_hits = house.tickets().iter().flat_map(|ticket| {
+            let jackpot = ticket.terms.kind == Kind::Jackpot;
+            ticket.games.iter().filter(move |game| jackpot && !game.paid)
+        });
+        let hit = |standing| matches!(standing, Standing::Drawn { shares, .. } if shares > 0);
+        assert!(free_hits.filter(|game| hit(game.standing)).count() > 0);
+    }
+}
+
+#[test]
+fn cancels_come_at_every_moment() {
+    let (_, answers) = run(&scenarios::cancels(SEED)[0]);
+    for code in [0, 19, 20, 21, 22] {
+        assert!(count(&answers, CANCEL, code) >= 8, "code {code}");
+    }
+    assert!(count(&answers, CLAIM, 23) > 0);
+}
+
+#[test]
+fn expiries_take_some_and_leave_some() {
+    for (set, roll) in scenarios::expiries(SEED).iter().enumerate() {
+        let (house, answers) = run(roll);
+        let expiries: Vec<u32> = answers
+            .iter()
+            .filter(|(byte, _)| *byte == EXPIRE)
+            .map(|(_, answer)| answer.number)
+            .collect();
+        assert_eq!(expiries[..4], [0, 0, 0, 0], "days 363 to 364 and 364 to 365");
+        assert!(expiries.iter().filter(|&&number| number > 0).count() >= 4, "{expiries:?}");
+        assert!(count(&answers, TRANSFER, 0) > 0);
+        assert!(house.tickets().iter().any(|t| t.closing == Some(Closing::Claimed)), "{set}");
+        assert!(house.live_tickets().count() >= 4, "100 games are not finished");
+    }
+}
+
+#[test]
+fn the_lounge_is_crowded() {
+    let (_, answers) = run(&scenarios::crowded_lounge(SEED)[0]);
+    assert!(count(&answers, SELL, 16) >= 4);
+    assert!(count(&answers, SELL, 0) >= 204);
+}
+
+#[test]
+fn transfers_reach_both_primaries() {
+    let (_, answers) = run(&scenarios::transfers(SEED)[0]);
+    let to = |jackpot| {
+        answers
+            .iter()
+            .filter(|(byte, a)| *byte == TRANSFER && a.code == 0 && a.number == jackpot)
+            .count()
+    };
+    assert!(to(6) >= 8 && to(8) >= 8);
+    for code in [6, 28, 29] {
+        assert!(count(&answers, TRANSFER, code) >= 8);
+    }
+}
+
+/// 135 cells of rule 18.1, 16 of jackpots, 135 and 22 of the specials.
+#[test]
+fn every_cell_is_sold_and_drawn() {
+    for roll in sweeps::schedule_cells(SEED) {
+        let (house, answers) = run(&roll);
+        assert_eq!(count(&answers, SELL, 0), 135 + 16 + 135 + 22);
+        assert_eq!(house.game(), 1 + 135 + 16 + 135 + 22);
+    }
+}
+
+#[test]
+fn sweeps_meet_both_sides_of_each_limit() {
+    let of = |rolls: Vec<Vec<u8>>, code: u8| -> usize {
+        rolls.iter().map(|roll| count(&run(roll).1, SELL, code)).sum()
+    };
+    assert!(of(sweeps::groups_and_types(), 0) > 200);
+    assert!(of(sweeps::groups_and_types(), 9) == 512);
+    assert!(of(sweeps::stakes(), 0) > 50 && of(sweeps::stakes(), 14) > 200);
+    assert_eq!(of(sweeps::charges(), 15), 100);
+    assert_eq!(of(sweeps::charges(), 0), 200);
+    assert!(of(sweeps::way_sizes(), 12) > 100 && of(sweeps::way_sizes(), 13) > 10);
+}
