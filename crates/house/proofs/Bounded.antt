@@ -32,20 +32,11 @@ use Rattle.house.proofs.Ledger.{All, Kept, Orderly, withLive, houseOf, 
 use Rattle.house.proofs.Refusals.{operands-accepted, sell-accepted, ball-accepted}
 use Rattle.house.proofs.SomeWay.{ways-some}
 use Rattle.rules.proofs.WayLaws.{ways-lt}
+pub use Rattle.house.proofs.MoneyLaws.{all-kept}
 
 -- ---- lists
 
 module _ {A : Type 0} where
-  -- what holds of every element holds of those that are kept
-  pub all-kept : (P : A → Type 0) (f : A → Bool) (xs : List A) → All P xs → All P (keep f xs)
-  unfolding keep
-  all-kept P f [] h = tt
-  all-kept P f (x ∷ xs) h = go (f x) (all-kept P f xs (h .1))
-    where
-      go : (t : Bool) → All P (keep f xs) → All P (cond t (x ∷ keep f xs) (keep f xs))
-      go true rest = (h .0, rest)
-      go false rest = rest
-
   -- and what follows of what they are mapped to, of each member
   all-mapped :
       {B : Type 0} (P : A → Type 0) (Q : B → Type 0) (f : A → B)

@@ -4,6 +4,7 @@ use mathlib.Core.Bool.{Bool, true, false, cond}
 use mathlib.Core.List.{List, [], _∷_, _++_, map}
 use Rattle.rules.specs.Lists.{keep}
 use Rattle.house.proofs.Ledger.{All}
+pub use Rattle.rules.proofs.KeepLaws.{keep-append}
 
 -- either way of a choice
 pub cond-either : {A : Type 0} {x y : A} (P : A → Type 0) (b : Bool) → P x → P y → P (cond b x y)
@@ -11,17 +12,6 @@ cond-either P true p q = p
 cond-either P false p q = q
 
 module _ {A : Type 0} where
-  pub keep-append : (f : A → Bool) (xs ys : List A) → keep f (xs ++ ys) ≡ keep f xs ++ keep f ys
-  unfolding keep
-  keep-append f [] ys = refl
-  keep-append f (x ∷ xs) ys = rw (keep-append f xs ys) (go (f x))
-    where
-      go :
-          (b : Bool)
-          → cond b (x ∷ (keep f xs ++ keep f ys)) (keep f xs ++ keep f ys) ≡ cond b (x ∷ keep f xs) (keep f xs) ++ keep f ys
-      go true = refl
-      go false = refl
-
   pub keep-snoc : (f : A → Bool) (xs : List A) (x : A) → f x ≡ true → keep f (xs ++ (x ∷ [])) ≡ keep f xs ++ (x ∷ [])
   unfolding keep
   keep-snoc f xs x e = rw (keep-append f xs (x ∷ []), e)

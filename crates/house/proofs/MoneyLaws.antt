@@ -7,6 +7,7 @@ use native.Mathlib.Nat.{add-zero}
 use native.Mathlib.Omega.{arith}
 use Rattle.rules.specs.Lists.{sum, keep, any}
 use Rattle.house.proofs.Ledger.{All}
+pub use Rattle.rules.proofs.WayLaws.{keep-map}
 
 module _ {A : Type 0} where
   pub all-of : {P : A → Type 0} → ((x : A) → P x) → (xs : List A) → All P xs
@@ -93,18 +94,6 @@ module _ {A B : Type 0} where
   map-same f g (x ∷ xs) each =
       let rest : map f xs ≡ map g xs = map-same f g xs (each .1) in
       λ i. each .0 i ∷ rest i
-
-  pub keep-map : (p : B → Bool) (g : A → B) (xs : List A) → keep p (map g xs) ≡ map g (keep (λ x. p (g x)) xs)
-  unfolding keep
-  keep-map p g [] = refl
-  keep-map p g (x ∷ xs) = go (p (g x)) (keep-map p g xs)
-    where
-      go : (t : Bool) →
-          keep p (map g xs) ≡ map g (keep (λ y. p (g y)) xs) →
-          cond t (g x ∷ keep p (map g xs)) (keep p (map g xs))
-          ≡ map g (cond t (x ∷ keep (λ y. p (g y)) xs) (keep (λ y. p (g y)) xs))
-      go true rest = ap (λ l. g x ∷ l) rest
-      go false rest = rest
 
 pub sum-append : (xs ys : List ℕ) → sum (xs ++ ys) ≡ sum xs + sum ys
 unfolding sum

@@ -12,11 +12,12 @@ use Rattle.rules.specs.Lists.{keep}
 use Rattle.rules.specs.Jackpots.{guaranteeOfSix, guaranteeOfEight}
 use Rattle.rules.specs.Price.{charge}
 use Rattle.house.specs.Tickets.{Ticket, runsIn, isFinished, paidStakes, heldFor, withDue, withStop, withFinishedDay}
-use Rattle.house.specs.Model.{Model, isDrawing, nextGame}
+use Rattle.house.specs.Model.{Model, nextGame}
 use Rattle.house.specs.Commands.{Command, cancel, ball, replies, ticketAt, finishedOn, cancelStop, cancelledTicket, codeOf, refundOf, cancelled, ballsWith, settles, awarded, gameSettled, ballEntered, act, reply, step}
 use Rattle.house.proofs.Ledger.{All, houseOf}
 use Rattle.house.proofs.Refusals.{cancel-accepted}
 use Rattle.house.proofs.Bounded.{Bounded}
+use Rattle.house.proofs.LiveTickets.{next-game-least}
 
 -- every caller: a refused command leaves the house exactly as it was, and answers its number, 0, 0
 pub refused-unchanged :
@@ -35,13 +36,6 @@ unfolding step
 accepted-done m c e = rw (eq-eqb (codeOf m c) 0 e) (refl, refl)
 
 -- ---- runners
-
-next-game-least : (m : Model) → m .game ≤ nextGame m
-next-game-least m = go (isDrawing m)
-  where
-    go : (drawing : Bool) → m .game ≤ cond drawing (m .game + 1) (m .game)
-    go true = omega arith
-    go false = omega arith
 
 -- of games in a row, the paid ones up to one of them and those from it on; free is the first that is not paid
 games-parted :

@@ -20,8 +20,9 @@ use Rattle.house.specs.Till.{tillOf}
 use Rattle.house.specs.Sheet.{Line, gamesFrom, stakesOf, lineEntry, totalAt, takenOff, playing, sheetSettlement, lateDues, tooLate}
 use Rattle.house.proofs.Ledger.{All, Kept, Orderly, lineOf, sheetFor, houseOf}
 use Rattle.house.proofs.MoneyLaws.{all-of, all-from, all-kept, keep-same, keep-keep, keep-none, any-none, sum-kept, sum-picked, sum-parts, map-same, keep-map, sum-unmoved, sum-moved}
-use Rattle.house.proofs.SpanLaws.{plays-left, stakes-split, held-none, stakes-of-game, runs-span, held-drawn}
-use Rattle.house.proofs.SheetLines.{next-from, taken-off, late-alike}
+use Rattle.house.proofs.SpanLaws.{plays-left, stakes-split, held-none, stakes-of-game, held-drawn}
+use Rattle.house.proofs.SheetLines.{taken-off, late-alike}
+use Rattle.house.proofs.LiveTickets.{running-live, next-game-least}
 
 -- what some tickets are due, and what they hold
 abbrev pub dues : List Ticket → ℕ
@@ -206,7 +207,7 @@ module _ (m : Model) (n : ℕ) (orderly : Orderly m) (here : hasTicket n (houseO
         where
           go : (b : Bool) → heldFor (m .game) t ≡ heldFor (m .game) (cond b (cancelledTicket m t) t) + cond b (refund t) 0
           go true =
-              let next : m .game ≤ nextGame m = next-from m in
+              let next : m .game ≤ nextGame m = next-game-least m in
               let before : max (t .first) (m .game) ≤ cancelStop m t = omega arith in
               stakes-split (max (t .first) (m .game)) (cancelStop m t) (t .stop) t before
               ∙ ap (λ k. k + refund t) (sym (finished-held (m .day) (m .game) (m .game) (withStop t (min (t .stop) (cancelStop m t)))))
@@ -251,7 +252,7 @@ paid-in-span first games paid few = omega arith
 pub sold-held : (m : Model) (o : Operands) → heldFor (m .game) (soldTicket m o) ≡ chargeOf o
 unfolding paidStakes
 sold-held m o =
-    let next : m .game ≤ nextGame m = next-from m in
+    let next : m .game ≤ nextGame m = next-game-least m in
     let first : max (nextGame m) (m .game) ≡ nextGame m = omega arith in
     ap (λ a. paidStakes a (nextGame m + o .games) (soldTicket m o)) first
     ∙ ap (charge (o .stake) (wayCount o))
@@ -308,25 +309,6 @@ module _ (m : Model) where
 
 -- ---- the twentieth ball
 
--- a ticket that runs is live
-runs-live : (game : ℕ) (t : Ticket) → (isLive game t && runsIn game t) ≡ runsIn game t
-unfolding gamesLeft
-runs-live game t = go (isLive game t) refl (runsIn game t) refl
-  where
-    go : (live : Bool) → isLive game t ≡ live → (plays : Bool) → runsIn game t ≡ plays → (live && plays) ≡ plays
-    go true alive plays p = refl
-    go false shut true p =
-        let span : (t .first ≤ game) × (game < t .stop) = runs-span game t p in
-        let none : t .stop - max (t .first) game ≡ 0 = closed-none game t shut .0 in
-        absurd (omega arith)
-    go false shut false p = refl
-
-pub running-all : (game : ℕ) (ts : List Ticket) → keep (runsIn game) (stillLive game ts) ≡ keep (runsIn game) ts
-unfolding stillLive
-running-all game ts =
-    keep-keep (runsIn game) (isLive game) ts
-    ∙ keep-same (λ t. isLive game t && runsIn game t) (runsIn game) ts (all-of (runs-live game) ts)
-
 line-entry : (game : ℕ) (t : Ticket) → Kept game t → lineEntry game (lineOf game t) ≡ entryOf game t
 line-entry game t kept =
     λ i. record { terms = entryOf game t .terms; marks = t .operands .marks; paid = stakes-of-game game t kept i }
@@ -342,7 +324,7 @@ entries-alike m orderly =
     ∙ map-map (lineEntry (m .game)) (lineOf (m .game)) plays
     ∙ map-same (λ t. lineEntry (m .game) (lineOf (m .game) t)) (entryOf (m .game)) plays
     (all-from (line-entry (m .game)) plays (all-kept (Kept (m .game)) (runsIn (m .game)) (m .live) (orderly .tickets)))
-    ∙ ap (map (entryOf (m .game))) (sym (running-all (m .game) (m .live)))
+    ∙ ap (map (entryOf (m .game))) (sym (running-live (m .game) (m .live)))
   where
     plays : List Ticket
     plays = keep (runsIn (m .game)) (m .live)

@@ -17,6 +17,7 @@ use Rattle.house.specs.Sheet.{Line, gamesFrom, stakesOf, leftWith, dueOf
 use Rattle.house.proofs.Ledger.{All, Kept, lineOf, sheetFor}
 use Rattle.house.proofs.MoneyLaws.{all-of, all-from}
 use Rattle.house.proofs.SpanLaws.{length-games, keep-games, keep-below, span-above, plays-left, idle-first, idle-left, drawn-left, stakes-of-line}
+use Rattle.house.proofs.LiveTickets.{next-game-least}
 
 -- ---- a line
 
@@ -59,18 +60,11 @@ left-line day game u before left same unset =
 
 -- ---- Sell
 
-pub next-from : (m : Model) → m .game ≤ nextGame m
-next-from m = go (isDrawing m)
-  where
-    go : (t : Bool) → m .game ≤ cond t (m .game + 1) (m .game)
-    go true = omega arith
-    go false = omega arith
-
 pub sold-line : (m : Model) (o : Operands) → m .issued ≡ length (m .live) → newLine o (sheetFor m) ≡ lineOf (m .game) (soldTicket m o)
 unfolding gamesLeft
 sold-line m o issued =
     let number : length (map (lineOf (m .game)) (m .live)) + 1 ≡ m .issued + 1 = omega (arith, length-map (m .live) (lineOf (m .game))) in
-    let later : m .game ≤ nextGame m = next-from m in
+    let later : m .game ≤ nextGame m = next-game-least m in
     let first : nextGame m ≡ max (nextGame m) (m .game) = omega arith in
     let count : o .games ≡ nextGame m + o .games - max (nextGame m) (m .game) = omega arith in
     λ i. record { number = number i; operands = o; first = nextGame m; left = gamesFrom (first i) (count i); due = 0; finishingDay = 0 }
@@ -116,7 +110,7 @@ pub taken-off : (m : Model) (t : Ticket) → Kept (m .game) t →
 unfolding takenOff gamesLeft
 taken-off m t kept =
     let a : ℕ = max (t .first) (m .game) in
-    let next : m .game ≤ nextGame m = next-from m in
+    let next : m .game ≤ nextGame m = next-game-least m in
     let first : max a (cancelStop m t) ≡ cancelStop m t = omega arith in
     ap (stakesOf (lineOf (m .game) t))
     (keep-games (λ g. not (stays (sheetFor m) g)) (λ g. leb (cancelStop m t) g) a (t .stop - a) (after-stop m t)

@@ -25,7 +25,8 @@ use Rattle.house.proofs.Ledger.{Orderly, withLive, houseOf, lineOf, she
 use Rattle.house.proofs.MoneyLaws.{sum-snoc, sum-unmoved}
 use Rattle.house.proofs.Refusals.{cancel-accepted, claim-accepted, transfer-accepted}
 use Rattle.house.proofs.SheetLines.{sold-line, cancelled-lines, claimed-lines, expired-lines, settled-lines}
-use Rattle.house.proofs.SheetFigures.{dues, stakesHeld, sold-held, cancel-total, cancel-held, cancel-owed, claim-total, claim-owed, claim-held, late-dues, expire-owed, expire-held, finished-due, finished-held, running-all, awarded-owed, awarded-unmoved, drawn-held, settlements-alike, stakes-alike}
+use Rattle.house.proofs.SheetFigures.{dues, stakesHeld, sold-held, cancel-total, cancel-held, cancel-owed, claim-total, claim-owed, claim-held, late-dues, expire-owed, expire-held, finished-due, finished-held, awarded-owed, awarded-unmoved, drawn-held, settlements-alike, stakes-alike}
+use Rattle.house.proofs.LiveTickets.{running-live}
 use Rattle.rules.proofs.SettleLaws.{awards-count, awards-sum, pools-balance}
 
 figures-same : {f g : Figures} →
@@ -274,7 +275,7 @@ module _ (m : Model) (b : ℕ) where
   awards-given =
       awards-count (record { balls = ballsWith b m }) (m .six) (m .eight) (map (entryOf (m .game)) (runningIn (houseOf m)))
       ∙ length-map (runningIn (houseOf m)) (entryOf (m .game))
-      ∙ ap length (running-all (m .game) (m .live))
+      ∙ ap length (running-live (m .game) (m .live))
 
   settled-owed : dues ticketsThen ≡ dues (m .live) + (result .prizes + result .shares)
   unfolding settlement
@@ -300,7 +301,7 @@ module _ (m : Model) (b : ℕ) where
       (finished-held (m .day) (m .game + 1) (m .game + 1))
       (awarded (m .game) (result .awards) (m .live))
       ∙ ap sum (awarded-unmoved (m .game) (heldFor (m .game + 1)) (λ t cents. refl) (result .awards) (m .live))))
-      (ap (λ ts. sum (map (paidStakes (m .game) (m .game + 1)) ts)) (sym (running-all (m .game) (m .live))))
+      (ap (λ ts. sum (map (paidStakes (m .game) (m .game + 1)) ts)) (sym (running-live (m .game) (m .live))))
 
   settled-pools :
       pooled (result .six) + pooled (result .eight) + result .shares + result .repaid
