@@ -1,0 +1,71 @@
+// The house for hosts in Rust or C: plain numbers, structs, arrays and bytes. The host keeps the house, the rows and the marks from call to call, as one call left them, and starts from a fresh house. One command by itself is a roll of one command.
+use commands::live_list::Listed;
+use commands::live_list::live_list;
+use commands::till::Pools;
+use commands::till::Till;
+use commands::till::pools_of;
+use commands::till::till_of;
+use house::state::House;
+use roll::reader::Report;
+use roll::reader::read_roll;
+ghost use mathlib.Core.Path.{_≡_};
+ghost use mathlib.Core.List.{List};
+ghost use Prim.Native.Nat.{ℕ};
+ghost use Rattle.house.specs.Balance.{Reached};
+ghost use Rattle.house.specs.Model.{fresh};
+ghost use Rattle.house.specs.Parts.{ComesWith};
+ghost use Rattle.house.specs.Till.{tillOf};
+ghost use Rattle.house.specs.View.{view};
+ghost use Rattle.commands.specs.Listing.{Listing};
+ghost use Rattle.commands.specs.Shown.{shownTill, poolsOf};
+ghost use Rattle.roll.specs.Reading.{readRoll};
+ghost use Rattle.roll.specs.Orders.{Reported};
+
+// A house in which nothing has happened, whatever the rows and the marks hold.
+#[no_mangle]
+pub extern "C" fn wulipday_fresh() -> House
+    ensures { λ r. ⌜ ((rows marks : List ℕ) → view r rows marks ≡ fresh) ⌝ }
+{
+    House::fresh()
+}
+
+// Runs the commands of a roll and writes their answers into the book.
+#[no_mangle]
+pub extern "C" fn wulipday_roll(
+    house: House,
+    rows: &mut [u64; 3200],
+    marks: &mut [u8; 16000],
+    roll: &[u8],
+    book: &mut [u8],
+) -> Report
+    requires { ⌜ Reached (view house (now rows) (now marks)) ⌝ }
+    ensures { λ r. ⌜ Reported (readRoll (view house (now (rows .entry)) (now (marks .entry))) (now (roll .entry)) (now (book .entry))) (view (r .house) (now (rows .exit)) (now (marks .exit))) (r .stop) (r .read) (r .answers) (now (book .exit)) ⌝ }
+{
+    read_roll(house, rows, marks, roll, book)
+}
+
+// The nine figures of the till.
+#[no_mangle]
+pub extern "C" fn wulipday_till(house: House, rows: &[u64; 3200]) -> Till
+    requires { ⌜ ComesWith house (now rows) ⌝ }
+    ensures { λ r. ⌜ ((marks : List ℕ) → r ≡ shownTill (tillOf (view house (now (rows .entry)) marks))) ⌝ }
+{
+    till_of(house, rows)
+}
+
+// The pools and the debt of each jackpot.
+#[no_mangle]
+pub extern "C" fn wulipday_pools(house: House) -> Pools
+    ensures { λ r. ⌜ ((words marks : List ℕ) → r ≡ poolsOf (view house words marks)) ⌝ }
+{
+    pools_of(house)
+}
+
+// The numbers of the live tickets, four bytes each.
+#[no_mangle]
+pub extern "C" fn wulipday_live_list(house: House, rows: &[u64; 3200], out: &mut [u8]) -> Listed
+    requires { ⌜ ComesWith house (now rows) ⌝ }
+    ensures { λ r. ⌜ ((marks : List ℕ) → Listing (view house (now (rows .entry)) marks) (now (out .entry)) (now (out .exit)) r) ⌝ }
+{
+    live_list(house, rows, out)
+}

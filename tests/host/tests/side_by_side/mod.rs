@@ -1,0 +1,217 @@
+//! The proved core and the reference side by side: the same rolls into both,
+//! and everything that comes out compared.
+
+// Each test file uses some of it.
+#![allow(dead_code)]
+
+pub mod edges;
+pub mod lucky;
+
+use host::Lounge;
+use reference::command::{length, BALL};
+use reference::roll::{ANSWER_BYTES, STOP_BOOK_FULL};
+use reference::till::FIGURES;
+use reference::{run_roll, Cents, Flaw, House};
+use rolls::Coverage;
+use std::fmt::Debug;
+
+/// What the two do not agree on.
+pub type Difference = String;
+
+/// What a lent byte holds before it is written.
+const BLANK: u8 = 0xA5;
+
+/// Both houses, and what they have answered so far.
+pub struct Pair {
+    lounge: Lounge,
+    house: House,
+    pub counts: Counts,
+}
+
+/// What was compared, over all houses of a test.
+#[derive(Default)]
+pub struct Counts {
+    pub coverage: Coverage,
+    pub commands: u64,
+    /// Comparisons of till, pools and live list.
+    pub tills: u64,
+    /// Games in which the cut floored prizes more than once, where commands
+    /// were run one by one.
+    pub repeated_cuts: u64,
+}
+
+/// How far one roll was read, and the code of its last answer.
+pub struct Reading {
+    pub stop: u8,
+    pub read: usize,
+    pub code: u8,
+}
+
+impl Pair {
+    pub fn fresh() -> Pair {
+        Pair::flawed(Flaw::None)
+    }
+
+    /// The proved core, in buffers full of something, beside a reference with a
+    /// flaw.
+    pub fn flawed(flaw: Flaw) -> Pair {
+        let rows = Box::new([u64::MAX; 3_200]);
+        let marks = Box::new([BLANK; 16_000]);
+        Pair::of(Lounge::fresh_in(rows, marks), House::flawed(flaw))
+    }
+
+    pub fn of(lounge: Lounge, house: House) -> Pair {
+        Pair { lounge, house, counts: Counts::default() }
+    }
+
+    /// Both begin anew; the counts go on.
+    pub fn start_anew(&mut self) {
+        let fresh = Pair::fresh();
+        self.lounge = fresh.lounge;
+        self.house = fresh.house;
+    }
+
+    /// Reads one roll into a book of so many bytes.
+    pub fn read(&mut self, roll: &[u8], book_bytes: usize) -> Result<Reading, Difference> {
+        let mut proved_book = vec![BLANK; book_bytes];
+        let mut reference_book = proved_book.clone();
+        let proved = self.lounge.roll(roll, &mut proved_book);
+        let reference = run_roll(&mut self.house, roll, &mut reference_book);
+        same("stop", proved.stop, reference.stop)?;
+        same("bytes read", proved.read, reference.read)?;
+        same("answers", proved.answers, reference.answers)?;
+        let (records, beyond) = proved_book.split_at(proved.answers * ANSWER_BYTES);
+        let both = records.chunks(ANSWER_BYTES).zip(reference_book.chunks(ANSWER_BYTES));
+        for (place, (proved, reference)) in both.enumerate() {
+            same(&format!("answer {place}"), proved, reference)?;
+        }
+        same("book beyond its answers", beyond, &vec![BLANK; beyond.len()])?;
+        self.counts.coverage.count_book(records);
+        self.counts.coverage.count_stop(proved.stop);
+        self.counts.commands += proved.answers as u64;
+        let code = records.chunks(ANSWER_BYTES).last().map_or(0, |record| record[1]);
+        Ok(Reading { stop: proved.stop, read: proved.read, code })
+    }
+
+    /// Reads a roll to its end through a book that is emptied whenever it is
+    /// full, and compares the houses after each.
+    pub fn read_through(&mut self, roll: &[u8], book_bytes: usize) -> Result<(), Difference> {
+        let mut unread = roll;
+        loop {
+            let reading = self.read(unread, book_bytes)?;
+            self.compare()?;
+            unread = &unread[reading.read..];
+            if reading.stop != STOP_BOOK_FULL || reading.read == 0 {
+                return Ok(());
+            }
+        }
+    }
+
+    /// Reads a roll command by command, each a roll of its own, and compares
+    /// the houses after each.
+    pub fn read_by_command(&mut self, roll: &[u8]) -> Result<(), Difference> {
+        let mut unread = roll;
+        let mut place = 0;
+        while let Some(size) = whole_command(unread) {
+            let (command, rest) = unread.split_at(size);
+            self.read_command(command).map_err(|found| format!("command {place}: {found}"))?;
+            unread = rest;
+            place += 1;
+        }
+        self.read(unread, ANSWER_BYTES).map(|_| ())
+    }
+
+    /// One command. Refused, it must leave every byte of the house, the rows
+    /// and the marks as it was.
+    fn read_command(&mut self, command: &[u8]) -> Result<(), Difference> {
+        let before = self.lounge.clone();
+        let game = self.house.game();
+        let reading = self.read(command, ANSWER_BYTES)?;
+        self.compare()?;
+        if reading.code != 0 && before != self.lounge {
+            return Err("a refused command left a trace".into());
+        }
+        let settlement = self.house.last_settlement();
+        if command[0] == BALL && self.house.game() != game {
+            let rounds = settlement.map_or(0, |settlement| settlement.cut_rounds);
+            self.counts.repeated_cuts += u64::from(rounds > 1);
+        }
+        Ok(())
+    }
+
+    /// Till, pools and live list.
+    pub fn compare(&mut self) -> Result<(), Difference> {
+        self.counts.tills += 1;
+        let figures = figures(&self.lounge.till()).into_iter().zip(self.house.till());
+        for (name, (proved, reference)) in FIGURES.iter().zip(figures) {
+            same(name, proved, reference)?;
+        }
+        let pools = self.lounge.pools();
+        let reference = self.house.pools();
+        same("pools of six", jackpot(&pools.six), reference_jackpot(&reference.six))?;
+        same("pools of eight", jackpot(&pools.eight), reference_jackpot(&reference.eight))?;
+        self.compare_live_lists()
+    }
+
+    /// The same numbers, in any order, in a buffer with room to spare, one
+    /// that just serves and one that is a byte short.
+    fn compare_live_lists(&self) -> Result<(), Difference> {
+        let mut expected: Vec<u32> = self.house.live_tickets().map(|t| t.number).collect();
+        expected.sort_unstable();
+        let bytes = 4 * expected.len();
+        for room in [bytes, bytes + 1, bytes + 9] {
+            let mut out = vec![BLANK; room];
+            same("live list", self.lounge.live_list(&mut out), Ok(expected.len() as u32))?;
+            let number = |four: &[u8]| u32::from_be_bytes(four.try_into().expect("4 bytes"));
+            let mut listed: Vec<u32> = out[..bytes].chunks_exact(4).map(number).collect();
+            listed.sort_unstable();
+            same("live tickets", &listed, &expected)?;
+            same("beyond the live list", &out[bytes..], &vec![BLANK; room - bytes])?;
+        }
+        if bytes > 0 {
+            let mut short = vec![BLANK; bytes - 1];
+            same("short live list", self.lounge.live_list(&mut short), Err(30))?;
+            same("short buffer", &short, &vec![BLANK; bytes - 1])?;
+        }
+        Ok(())
+    }
+}
+
+fn same<T: PartialEq + Debug>(what: &str, proved: T, reference: T) -> Result<(), Difference> {
+    if proved == reference {
+        return Ok(());
+    }
+    Err(format!("{what}: proved {proved:?}, reference {reference:?}"))
+}
+
+/// The size of the whole known command that a roll begins with.
+fn whole_command(roll: &[u8]) -> Option<usize> {
+    let size = length(*roll.first()?)?;
+    (size <= roll.len()).then_some(size)
+}
+
+fn figures(till: &host::Till) -> [Cents; 9] {
+    let retained = Cents::from(till.retained);
+    let unsigned = [
+        till.taken,
+        till.seeds,
+        till.paid,
+        till.refunded,
+        till.owed,
+        till.held,
+        till.unclaimed,
+        till.pooled,
+        0,
+    ];
+    let mut figures = unsigned.map(Cents::from);
+    figures[8] = if till.negative { -retained } else { retained };
+    figures
+}
+
+fn jackpot(pools: &host::Jackpot) -> [Cents; 4] {
+    [pools.primary, pools.secondary, pools.reimbursement, pools.debt].map(Cents::from)
+}
+
+fn reference_jackpot(pools: &reference::Jackpot) -> [Cents; 4] {
+    [pools.primary, pools.secondary, pools.reimbursement, pools.debt]
+}
