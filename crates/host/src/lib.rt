@@ -1,4 +1,4 @@
-// The house for hosts in Rust or C: plain numbers, structs, arrays and bytes. The host keeps the house, the rows and the marks from call to call, as one call left them, and starts from a fresh house. One command by itself is a roll of one command.
+// The house for hosts in Rust or C: plain numbers, structs, arrays and bytes. The host keeps the house, the rows and the marks from call to call, as one call left them, and starts from a fresh house.
 use commands::live_list::Listed;
 use commands::live_list::live_list;
 use commands::till::Pools;
@@ -42,6 +42,22 @@ pub extern "C" fn wulipday_roll(
     ensures { λ r. ⌜ Reported (readRoll (view house (now (rows .entry)) (now (marks .entry))) (now (roll .entry)) (now (book .entry))) (view (r .house) (now (rows .exit)) (now (marks .exit))) (r .stop) (r .read) (r .answers) (now (book .exit)) ⌝ }
 {
     read_roll(house, rows, marks, roll, book)
+}
+
+// Carries out the first command of the bytes and writes its answer. Where more bytes follow it the stop code is 3, and where they are no command
+// nothing is done.
+#[no_mangle]
+pub extern "C" fn wulipday_command(
+    house: House,
+    rows: &mut [u64; 3200],
+    marks: &mut [u8; 16000],
+    command: &[u8],
+    answer: &mut [u8; 14],
+) -> Report
+    requires { ⌜ Reached (view house (now rows) (now marks)) ⌝ }
+    ensures { λ r. ⌜ Reported (readRoll (view house (now (rows .entry)) (now (marks .entry))) (now (command .entry)) (now (answer .entry))) (view (r .house) (now (rows .exit)) (now (marks .exit))) (r .stop) (r .read) (r .answers) (now (answer .exit)) ⌝ }
+{
+    read_roll(house, rows, marks, command, answer)
 }
 
 // The nine figures of the till.

@@ -39,7 +39,7 @@ module _ {A : Type 0} (P : A → Type 0) where
     all-keep (x ∷ xs) (p, all) = all-keep-by x (keep f xs) (f x) p (all-keep xs all)
 
 -- by place
-rising-at : (ts : List Ticket) → Rising ts → (j k : ℕ) → j < k → k < length ts
+pub rising-at : (ts : List Ticket) → Rising ts → (j k : ℕ) → j < k → k < length ts
     → getD ts j blankTicket .number < getD ts k blankTicket .number
 rising-at [] rising j k h b = absurd (not-suc-le-zero b)
 rising-at (t ∷ ts) rising j zero h b = absurd (not-suc-le-zero h)

@@ -15,7 +15,7 @@ use lib.Seq.{sets, sets-eq, length-sets, set-set, getD-set-same, getD-set-other,
 use Rattle.rules.specs.Lists.{keep, any}
 use Rattle.house.specs.Tickets.{Ticket, isLive}
 use Rattle.house.specs.Commands.{blankTicket, ticketAt, hasTicket, changed, stillLive}
-use Rattle.house.specs.View.{rowOf, putRow, marksAt, putMarks, ticketFrom, ticketIn, ticketsOf, placeOf, without}
+use Rattle.house.specs.View.{rowOf, putRow, marksAt, putMarks, ticketFrom, ticketIn, ticketsOf, placeOf, RisingRows, without}
 use Rattle.house.specs.declared.rows.Row.{Row}
 use Rattle.house.proofs.Ledger.{All}
 use Rattle.house.proofs.RowLists.{getD-sets-before, getD-sets-after, getD-sets-at, sets-more, length-table, getD-table, getD-map, equal-or-not, earlier-or-not, drop-take}
@@ -260,6 +260,22 @@ module _ (words marks : List ℕ) (live : ℕ) (h : live ≤ 200) where
         place-none n (take live (ticketsOf words marks))
         (λ j l q. none j (omega (arith, live-length)) (ap (λ t. t .number) (sym (live-at j (omega (arith, live-length)))) ∙ q))
         ∙ live-length
+
+-- in the search by halves, the number in the middle settles all on one side of it
+module _ (words : List ℕ) (live : ℕ) (rows : RisingRows words live) (n middle : ℕ) (h : middle < live) where
+  pub before-more : getD words (middle * 16) 0 < n → (k : ℕ) → k < middle + 1 → getD words (k * 16) 0 < n
+  before-more low k b =
+      ⊎-elim
+      (λ e. subst⁻¹ (λ k. getD words (k * 16) 0 < n) e low)
+      (λ e. omega (arith, rows .rising k middle (omega arith) h))
+      (equal-or-not k middle)
+
+  pub after-more : n ≤ getD words (middle * 16) 0 → (k : ℕ) → middle ≤ k → k < live → n ≤ getD words (k * 16) 0
+  after-more high k b c =
+      ⊎-elim
+      (λ e. subst⁻¹ (λ k. n ≤ getD words (k * 16) 0) e high)
+      (λ e. omega (arith, rows .rising middle k (omega arith) c))
+      (equal-or-not k middle)
 
 -- a change to the ticket of a number, where no other has it
 pub changed-at : (n : ℕ) (f : Ticket → Ticket) (ts : List Ticket) (p : ℕ) → placeOf n ts ≡ p → p < length ts

@@ -1,5 +1,5 @@
 -- Laws of the view: how a command is shown to be carried out, and what the view's balls and live tickets are in the struct and the rows.
-use Prim.Native.Nat.{ℕ, _+_, _≤_, _<_}
+use Prim.Native.Nat.{ℕ, _+_, _*_, _≤_, _<_}
 use native.Mathlib.Omega.{arith}
 use mathlib.Core.Path.{_≡_, refl, sym, ap, _∙_}
 use mathlib.Core.Bool.{cond, not}
@@ -12,13 +12,14 @@ use Rattle.rules.specs.Lists.{below}
 use Rattle.house.specs.Tickets.{Ticket}
 use Rattle.house.specs.Model.{isDrawing, nextGame}
 use Rattle.house.specs.Commands.{Command, Answer, blankTicket, ticketAt, hasTicket, codeOf, act, reply}
-use Rattle.house.specs.View.{ticketIn, ticketsOf, placeOf, view}
+use Rattle.house.specs.View.{ticketIn, ticketsOf, placeOf, RisingRows, view}
 use Rattle.house.specs.Parts.{Carried}
 use Rattle.house.specs.declared.state.House.{House}
 use Rattle.house.proofs.Ledger.{withLive}
 use Rattle.house.proofs.Reliance.{refused-unchanged, accepted-done}
 use Rattle.house.proofs.Theorem.{reply-code}
 use Rattle.house.proofs.ReachedHouses.{Sure}
+use Rattle.house.proofs.RisingNumbers.{rising-at}
 use Rattle.house.proofs.RowLists.{length-table, getD-table}
 use Rattle.house.proofs.RowLaws.{place-has, place-ticket, live-at, live-length}
 
@@ -93,6 +94,19 @@ module _ (h : House) (words marks : List ℕ) where
       let small : i < h .live = omega (arith, live-count) in
       getD-table (ticketIn words marks) (h .live) i blankTicket small
       ∙ sym (live-at words marks (h .live) few i small))
+
+  -- their numbers rise, row after row
+  number-at : (i : ℕ) → i < h .live → getD (view h words marks .live) i blankTicket .number ≡ getD words (i * 16) 0
+  unfolding view
+  number-at i b = ap (λ t. t .number) (getD-table (ticketIn words marks) (h .live) i blankTicket b)
+
+  pub view-rising : Sure (view h words marks) → RisingRows words (h .live)
+  view-rising sure =
+      record {
+        few = view-few sure;
+        rising = λ j k l b.
+            omega (arith, number-at j (omega arith), number-at k b, rising-at (view h words marks .live) (sure .rising) j k l (omega (arith, live-count)));
+      }
 
   -- a view by its live tickets
   pub view-by : (ts : List Ticket) → view h words marks .live ≡ ts → view h words marks ≡ withLive (view h words marks) ts

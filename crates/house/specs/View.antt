@@ -1,6 +1,6 @@
 -- What the house's struct and the lent buffers say: "the live tickets stand in two buffers". The view is the model that the commands' contracts
 -- speak of; rows beyond the live ones are no part of it.
-use Prim.Native.Nat.{ℕ, suc, _+_, _*_}
+use Prim.Native.Nat.{ℕ, suc, _+_, _*_, _≤_, _<_}
 use mathlib.Core.Bool.{cond}
 use mathlib.Core.List.{List, [], _∷_, _++_, map}
 use lib.Dec.{eqb}
@@ -71,6 +71,11 @@ ticketsOf words marks = map (ticketIn words marks) (below 200)
 unfoldable pub placeOf : ℕ → List Ticket → ℕ
 placeOf n [] = 0
 placeOf n (t ∷ ts) = cond (eqb (t .number) n) 0 (suc (placeOf n ts))
+
+-- live rows whose ticket numbers rise, so that a number is looked for by halves
+pub record RisingRows (words : List ℕ) (live : ℕ) : Type 0 where
+  pub few : live ≤ 200
+  pub rising : (j k : ℕ) → j < k → k < live → getD words (j * 16) 0 < getD words (k * 16) 0
 
 -- a list without the element at a place
 unfoldable pub without {ℓ} : {A : Type ℓ} → ℕ → List A → List A

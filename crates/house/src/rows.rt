@@ -7,7 +7,7 @@ ghost use lib.Dec.{eqb};
 ghost use lib.ListN.{length, take, set, getD};
 ghost use lib.Seq.{sets};
 ghost use Rattle.house.specs.Commands.{blankTicket};
-ghost use Rattle.house.specs.View.{rowOf, putRow, marksAt, putMarks, ticketFrom, ticketsOf, placeOf, without};
+ghost use Rattle.house.specs.View.{rowOf, putRow, marksAt, putMarks, ticketFrom, ticketsOf, placeOf, RisingRows, without};
 
 // A buffer is as long as its type says: learnt by lending it as a slice.
 pub fn known_words(rows: &[u64; 3200])
@@ -134,20 +134,42 @@ fn move_marks(marks: &mut [u8; 16000], from: usize, to: usize)
     }
 }
 
-// The place of a ticket's number among the live ones, or their number where it is not there.
+// The first place among the live tickets whose number is not below the given one, or how many they are. The numbers rise, so each turn halves
+// what is left to look at.
+fn first_from(rows: &[u64; 3200], live: usize, number: u64) -> usize
+    requires { ⌜ RisingRows (now rows) live ⌝ }
+    ensures within { λ r. ⌜ r ≤ live ⌝ }
+    ensures before { λ r. ⌜ ((k : ℕ) → k < r → getD (now (rows .entry)) (k * 16) 0 < number) ⌝ }
+    ensures after { λ r. ⌜ ((k : ℕ) → r ≤ k → k < live → number ≤ getD (now (rows .entry)) (k * 16) 0) ⌝ }
+{
+    let mut low = 0;
+    let mut high = live;
+    while low < high {
+        let middle = (low + high) / 2;
+        let at = middle * 16;
+        if rows[at] < number {
+            low = middle + 1;
+        } else {
+            high = middle;
+        }
+    }
+    low
+}
+
+// The place of a ticket's number among the live ones, or how many they are where it is not there.
 pub fn place_of(rows: &[u64; 3200], live: usize, number: u64) -> usize
-    requires { ⌜ live ≤ 200 ⌝ }
+    requires { ⌜ RisingRows (now rows) live ⌝ }
     ensures { λ r. ⌜ ((m : List ℕ) → r ≡ placeOf number (take live (ticketsOf (now (rows .entry)) m))) ⌝ }
 {
-    let mut i = 0;
-    while i < live {
-        let at = i * 16;
-        if rows[at] == number {
-            return i;
-        }
-        i += 1;
+    let place = first_from(rows, live, number);
+    if live <= place {
+        return live;
     }
-    live
+    let at = place * 16;
+    if rows[at] != number {
+        return live;
+    }
+    place
 }
 
 // Another row in the place of a ticket's, which keeps its marks.

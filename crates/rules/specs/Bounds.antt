@@ -3,7 +3,7 @@
 use Prim.Native.Nat.{ℕ, _*_, _-_, _≤_, _<_, _^_}
 use mathlib.Core.Path.{_≡_}
 use mathlib.Core.List.{List}
-use lib.ListN.{drop}
+use lib.ListN.{length, drop, getD}
 use Rattle.rules.specs.Ways.{taken}
 use Rattle.rules.specs.Price.{chargeLimit}
 use Rattle.rules.specs.declared.terms.Terms.{Terms}
@@ -39,3 +39,34 @@ pub record Sharing (p s n stake : ℕ) : Type 0 where
   pub won : 0 < s
   pub part : n * stake ≤ s
   pub few : n < 2 ^ 16
+
+-- the same, of a ticket that has a winning way
+pub record Winning (p s n stake : ℕ) : Type 0 where
+  pub sharing : Sharing p s n stake
+  pub some : 0 < n
+
+-- a jackpot, and the paid stakes of a game that contribute to it
+pub record Contributing (j : Jackpot) (paid : ℕ) : Type 0 where
+  pub room : Roomy j
+  pub stakes : paid < 2 ^ 60
+
+-- a jackpot, and the guarantee that a seed brings it up to
+pub record Seeding (j : Jackpot) (guarantee : ℕ) : Type 0 where
+  pub room : Roomy j
+  pub limit : guarantee < 2 ^ 63
+
+-- as many groups as a ticket can have
+pub record Grouped (groups : ℕ) : Type 0 where
+  pub few : groups ≤ 8
+
+-- as many ways as eight groups can make
+pub record Counted (ways : ℕ) : Type 0 where
+  pub few : ways ≤ 255
+
+-- no more marks than a ticket has
+pub record Marked (marks : List ℕ) : Type 0 where
+  pub few : length marks ≤ 80
+
+-- counts of the groups' marks, each with room for one more
+pub record Countable (counts : List ℕ) : Type 0 where
+  pub room : (k : ℕ) → getD counts k 0 < 255

@@ -9,13 +9,14 @@ use crate::ways::all_between;
 use crate::ways::number_of_ways;
 ghost use mathlib.Core.Path.{_≡_};
 ghost use mathlib.Core.Bool.{not, _&&_, _||_};
-ghost use Prim.Native.Nat.{_^_, _≤_};
+ghost use Prim.Native.Nat.{_^_};
 ghost use lib.Dec.{leb, eqb};
 ghost use lib.ListN.{take};
 ghost use Rattle.rules.specs.Lists.{every};
 ghost use Rattle.rules.specs.Kinds.{isSpecialOne, sizesFit};
 ghost use Rattle.rules.specs.Ways.{waySizes};
 ghost use Rattle.rules.specs.Checks.{marksFit, quoteOf};
+ghost use Rattle.rules.specs.Bounds.{Grouped};
 
 // A sale's operands, checked: 0 with the number of ways and the charge, or the refusal's number.
 pub struct Quote {
@@ -61,7 +62,7 @@ fn marks_within(marks: &[u8], last: u8) -> bool
 
 // Whether each of the first groups has a number.
 fn none_empty(groups: u8, sizes: [u8; 8]) -> bool
-    requires { ⌜ groups ≤ 8 ⌝ }
+    requires { ⌜ Grouped groups ⌝ }
     ensures { λ r. ⌜ r ≡ every (λ n. not (eqb n 0)) (take groups sizes) ⌝ }
 {
     let mut i: usize = 0;
@@ -76,7 +77,7 @@ fn none_empty(groups: u8, sizes: [u8; 8]) -> bool
 
 // Whether there are 80 marks, none over the number of groups, and every group has a number.
 fn marks_fit(groups: u8, marks: &[u8]) -> bool
-    requires { ⌜ groups ≤ 8 ⌝ }
+    requires { ⌜ Grouped groups ⌝ }
     ensures { λ r. ⌜ r ≡ marksFit groups (now (marks .entry)) ⌝ }
 {
     if marks.len() != 80 {
@@ -90,7 +91,7 @@ fn marks_fit(groups: u8, marks: &[u8]) -> bool
 
 // Whether the types byte nominates something, and nothing of more groups than there are.
 fn types_fit(groups: u8, types: u8) -> bool
-    requires { ⌜ groups ≤ 8 ⌝ }
+    requires { ⌜ Grouped groups ⌝ }
     ensures { λ r. ⌜ r ≡ not (eqb types 0 || leb (2 ^ groups) types) ⌝ }
 {
     if types == 0 {
@@ -101,7 +102,7 @@ fn types_fit(groups: u8, types: u8) -> bool
 
 // Whether the ways' sizes suit the kind.
 fn sizes_fit(kind: Kind, groups: u8, types: u8, sizes: [u8; 8]) -> bool
-    requires { ⌜ groups ≤ 8 ⌝ }
+    requires { ⌜ Grouped groups ⌝ }
     ensures { λ r. ⌜ r ≡ sizesFit kind (waySizes groups types sizes) ⌝ }
 {
     match kind {

@@ -1,7 +1,7 @@
 // The pools of one jackpot: its contributions, its shares, its seed and what is paid back.
 ghost use mathlib.Core.Path.{_≡_};
-ghost use Prim.Native.Nat.{_+_, _*_, _≤_, _<_, _^_, min};
-ghost use Rattle.rules.specs.Bounds.{Roomy, Sharing};
+ghost use Prim.Native.Nat.{_+_, _*_, min};
+ghost use Rattle.rules.specs.Bounds.{Contributing, Seeding, Sharing, Winning};
 ghost use Rattle.rules.specs.Jackpots.{freshJackpot, contributed, shareOf, seedOf, reseeded, repaidOf, repaid};
 
 // Three pools and the seed debt, in cents.
@@ -28,7 +28,7 @@ impl Jackpot {
 
     // With the contributions of so many cents of paid stakes.
     pub fn contributed(self, paid: u64) -> Jackpot
-        requires { ⌜ Roomy self × (paid < 2 ^ 60) ⌝ }
+        requires { ⌜ Contributing self paid ⌝ }
         ensures { λ r. ⌜ r ≡ contributed paid self ⌝ }
     {
         let dollars = paid / 100;
@@ -53,7 +53,7 @@ impl Jackpot {
 
     // The secondary and the seed as the next primary, where the last one was won.
     pub fn reseeded(self, won: bool, guarantee: u64) -> Jackpot
-        requires { ⌜ Roomy self × (guarantee < 2 ^ 63) ⌝ }
+        requires { ⌜ Seeding self guarantee ⌝ }
         ensures { λ r. ⌜ r ≡ reseeded won guarantee self ⌝ }
     {
         if !won {
@@ -105,7 +105,7 @@ pub fn share_of(primary: u64, stakes: u64, stake: u32) -> u64
 
 // The shares of a ticket's winning ways with their odd cents.
 pub fn ticket_share(odd: u64, primary: u64, stakes: u64, count: u64, stake: u32) -> u64
-    requires { ⌜ Sharing primary stakes count stake × (0 < count) ⌝ }
+    requires { ⌜ Winning primary stakes count stake ⌝ }
     ensures { λ r. ⌜ r ≡ count * shareOf primary stakes stake + min odd count ⌝ }
 {
     let shares = count * share_of(primary, stakes, stake);

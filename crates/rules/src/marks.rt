@@ -2,13 +2,13 @@
 use crate::terms::Draw;
 ghost use mathlib.Core.Path.{_≡_};
 ghost use mathlib.Core.List.{List, [], _∷_, _++_};
-ghost use Prim.Native.Nat.{ℕ, _≤_, _<_};
-ghost use lib.ListN.{length};
+ghost use Prim.Native.Nat.{ℕ};
 ghost use Rattle.rules.specs.Ways.{sizes, hits, sizeOf, byGroup};
+ghost use Rattle.rules.specs.Bounds.{Marked, Countable};
 
 // The groups' counts with one mark more. A mark that names no group counts for none.
 fn with_mark(counts: [u8; 8], mark: u8) -> [u8; 8]
-    requires { ⌜ ((k : ℕ) → lib.ListN.getD counts k 0 < 255) ⌝ }
+    requires { ⌜ Countable counts ⌝ }
     ensures { λ r. ⌜ ((xs : List ℕ) → counts ≡ byGroup (sizeOf xs) → r ≡ byGroup (sizeOf (xs ++ (mark ∷ [])))) ⌝ }
 {
     let mut next = counts;
@@ -21,7 +21,7 @@ fn with_mark(counts: [u8; 8], mark: u8) -> [u8; 8]
 
 // How many numbers each group has.
 pub fn group_sizes(marks: &[u8]) -> [u8; 8]
-    requires { ⌜ length (now marks) ≤ 80 ⌝ }
+    requires { ⌜ Marked (now marks) ⌝ }
     ensures { λ r. ⌜ r ≡ sizes (now (marks .entry)) ⌝ }
 {
     let mut counts = [0u8; 8];

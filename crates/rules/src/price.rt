@@ -1,8 +1,8 @@
 // What a ticket costs: paid games, stakes, charge and refund.
 use crate::terms::Kind;
 ghost use mathlib.Core.Path.{_≡_};
-ghost use Prim.Native.Nat.{_≤_};
 ghost use Rattle.rules.specs.Price.{paidGames, minimumStake, stakeFits, charge};
+ghost use Rattle.rules.specs.Bounds.{Counted};
 
 // The games that are paid for: of 50 and more the last one is free, of 100 the last two.
 pub fn paid_games(games: u8) -> u8
@@ -48,7 +48,7 @@ pub fn stake_fits(kind: Kind, count: u32, stake: u32) -> bool
 
 // The stakes of so many paid games: a charge, or a refund.
 pub fn charge_of(stake: u32, count: u32, paid: u8) -> u64
-    requires { ⌜ count ≤ 255 ⌝ }
+    requires { ⌜ Counted count ⌝ }
     ensures { λ r. ⌜ r ≡ charge stake count paid ⌝ }
 {
     stake as u64 * count as u64 * paid as u64

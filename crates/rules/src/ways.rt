@@ -2,7 +2,6 @@
 use crate::terms::Terms;
 ghost use mathlib.Core.Path.{_≡_};
 ghost use mathlib.Core.Bool.{cond, _&&_};
-ghost use Prim.Native.Nat.{_^_, _≤_, _<_};
 ghost use lib.Dec.{leb};
 ghost use lib.ListN.{length};
 ghost use lib.Count.{ones};
@@ -11,11 +10,11 @@ ghost use Rattle.rules.specs.Kinds.{within};
 ghost use Rattle.rules.specs.Ways.{nominated, ways, waySizes};
 ghost use Rattle.rules.specs.Settle.{jackpotBy};
 ghost use Rattle.rules.specs.Passes.{sumFrom, sizeBetween};
-ghost use Rattle.rules.specs.Bounds.{Place, Carried};
+ghost use Rattle.rules.specs.Bounds.{Grouped, Place, Carried};
 
 // Whether the types byte nominates combinations of so many groups.
 pub fn nominates(types: u8, groups: u32) -> bool
-    requires { ⌜ groups ≤ 8 ⌝ }
+    requires { ⌜ Grouped groups ⌝ }
     ensures { λ r. ⌜ r ≡ nominated types groups ⌝ }
 {
     if groups == 0 {
@@ -27,7 +26,7 @@ pub fn nominates(types: u8, groups: u32) -> bool
 
 // 1 for a mask of groups that is a way of lo to hi numbers, and 0 for another. It selects `size` numbers.
 fn count_one(mask: u32, size: u32, types: u8, lo: u32, hi: u32) -> u32
-    requires { ⌜ mask < 2 ^ 8 ⌝ }
+    requires { ⌜ Place 0 mask ⌝ }
     ensures { λ r. ⌜ r ≡ cond (nominated types (ones mask)) (cond (leb lo size && leb size hi) 1 0) 0 ⌝ }
 {
     if !nominates(types, u32::count_ones(mask)) {
@@ -60,7 +59,7 @@ fn count_from(left: usize, mask: u32, size: u32, types: u8, sizes: [u8; 8], lo: 
 
 // How many ways select from lo to hi numbers.
 pub fn count_ways(groups: u8, types: u8, sizes: [u8; 8], lo: u32, hi: u32) -> u32
-    requires { ⌜ groups ≤ 8 ⌝ }
+    requires { ⌜ Grouped groups ⌝ }
     ensures { λ r. ⌜ r ≡ length (keep (λ n. leb lo n && leb n hi) (waySizes groups types sizes)) ⌝ }
 {
     count_from(groups as usize, 0, 0, types, sizes, lo, hi)
@@ -68,7 +67,7 @@ pub fn count_ways(groups: u8, types: u8, sizes: [u8; 8], lo: u32, hi: u32) -> u3
 
 // How many ways there are. Of empty groups, each of them selects no number.
 pub fn number_of_ways(groups: u8, types: u8) -> u32
-    requires { ⌜ groups ≤ 8 ⌝ }
+    requires { ⌜ Grouped groups ⌝ }
     ensures { λ r. ⌜ r ≡ length (ways groups types) ⌝ }
 {
     let empty = [0u8; 8];
@@ -77,7 +76,7 @@ pub fn number_of_ways(groups: u8, types: u8) -> u32
 
 // Whether every way selects from lo to hi numbers.
 pub fn all_between(groups: u8, types: u8, sizes: [u8; 8], lo: u32, hi: u32) -> bool
-    requires { ⌜ groups ≤ 8 ⌝ }
+    requires { ⌜ Grouped groups ⌝ }
     ensures { λ r. ⌜ r ≡ within lo hi (waySizes groups types sizes) ⌝ }
 {
     let fitting = count_ways(groups, types, sizes, lo, hi);
@@ -87,7 +86,7 @@ pub fn all_between(groups: u8, types: u8, sizes: [u8; 8], lo: u32, hi: u32) -> b
 
 // The jackpot that a ticket plays for, 6 or 8, or 0 for none.
 pub fn jackpot_of(terms: Terms, sizes: [u8; 8]) -> u8
-    requires { ⌜ terms .groups ≤ 8 ⌝ }
+    requires { ⌜ Grouped (terms .groups) ⌝ }
     ensures { λ r. ⌜ r ≡ jackpotBy terms sizes ⌝ }
 {
     let kind = terms.kind;

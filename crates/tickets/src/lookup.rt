@@ -3,8 +3,9 @@ use house::rows::place_of;
 use house::state::House;
 ghost use mathlib.Core.Path.{_≡_};
 ghost use mathlib.Core.List.{List};
-ghost use Prim.Native.Nat.{ℕ, _≤_};
+ghost use Prim.Native.Nat.{ℕ};
 ghost use Rattle.house.specs.View.{view, placeOf};
+ghost use Rattle.house.specs.Parts.{ComesWith};
 ghost use Rattle.house.specs.Commands.{lookupRows};
 ghost use Rattle.rules.specs.Checks.{firstMet};
 
@@ -15,7 +16,7 @@ pub struct Lookup {
 }
 
 pub fn look_up(house: House, rows: &[u64; 3200], ticket: u32) -> Lookup
-    requires { ⌜ house .live ≤ 200 ⌝ }
+    requires { ⌜ ComesWith house (now rows) ⌝ }
     ensures code { λ r. ⌜ ((marks : List ℕ) → r .code ≡ firstMet (lookupRows ticket (view house (now (rows .entry)) marks))) ⌝ }
     ensures place { λ r. ⌜ ((marks : List ℕ) → r .code ≡ 0 → r .place ≡ placeOf ticket (view house (now (rows .entry)) marks .live)) ⌝ }
 {

@@ -42,7 +42,10 @@ guarantee-of-requires c κs = search needs
 
 reseeded-requires : tie.Need-reseeded-requires
 reseeded-requires c κs =
-    (grown-fits (c .before .before .before) .1, subst⁻¹ (λ n. n < 2 ^ 63) (c .guarantee-of .ensures) (guarantee-within (c .before .before .before .before .before .before .args .jackpot)))
+    record {
+      room = grown-fits (c .before .before .before) .1;
+      limit = subst⁻¹ (λ n. n < 2 ^ 63) (c .guarantee-of .ensures) (guarantee-within (c .before .before .before .before .before .before .args .jackpot));
+    }
 
 repaid-requires : tie.Need-repaid-requires
 repaid-requires c κs = search needs

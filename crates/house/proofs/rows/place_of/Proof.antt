@@ -1,67 +1,58 @@
--- `house::rows::place_of` meets its contract: no row passed has the number.
-use Prim.Native.Nat.{ℕ, _≤_, _<_, _-_, _*_}
-use mathlib.Core.Path.{_≡_, sym}
+-- `house::rows::place_of` meets its contract: if any ticket has the number, it stands at the first place from which the numbers are not below it.
+use Prim.Native.Nat.{ℕ, _≤_, _<_, _*_}
+use mathlib.Core.Path.{_≡_, sym, ap, _∙_}
+use mathlib.Core.Logic.{⊎-elim}
 use lib.ListN.{getD}
 use native.Mathlib.Omega.{arith}
-use borrow.Author.Count.{below-more}
 use borrow.Author.Needs.{needs}
+use Rattle.house.proofs.RowLists.{equal-or-not, earlier-or-not}
 use Rattle.house.proofs.RowLaws.{place-of-row, place-of-none}
 use Rattle.house.proofs.rows.place_of.Statement.{statement}
 use Rattle.house.proofs.rows.place_of.Tie as tie
 
-abbrev Inv-loop : tie.InvT-loop
-Inv-loop rows live number i₀ i = (i ≤ live) × ((k : ℕ) → k < i → getD rows (k * 16) 0 ≡ number → ⊥)
+first-from-requires : tie.Need-first-from-requires
+first-from-requires c κs = search needs
 
-abbrev μ-loop : tie.MeasureT-loop
-μ-loop rows live number i₀ i = live - i
-
-loop-holds : tie.Need-loop-holds Inv-loop μ-loop
-loop-holds c = search needs
-
-mul-at : tie.Need-mul-at Inv-loop μ-loop
-mul-at c = search needs
-
-mul-if1 : tie.Need-mul-if1 Inv-loop μ-loop
-mul-if1 c = search needs
-
-element-copy-out-if1 : tie.Need-element-copy-out-if1 Inv-loop μ-loop
-element-copy-out-if1 c = search needs
-
-returns : tie.Need-returns Inv-loop μ-loop
+returns : tie.Need-returns
 returns c = λ m.
-    let start = c .before .before .before .before in
+    let found = c .before in
+    let start = found .before in
     let args = start .args in
-    let turn = c .before .before .before .loop in
-    sym (place-of-row (args .rows .now) m (args .live) (start .pre) (args .number) (turn .i) (omega arith) (c .if1 .taken) (turn .inv .1))
+    sym (place-of-none (args .rows .now) m (args .live) (start .pre .few) (args .number)
+    (λ k b e. omega (arith, found .first-from .ensures .1 .0 k (omega arith))))
 
-add-i : tie.Need-add-i Inv-loop μ-loop
-add-i c = search needs
+mul-at : tie.Need-mul-at
+mul-at c = omega (arith, c .before .before .pre .few)
 
-loop-less : tie.Need-loop-less Inv-loop μ-loop
-loop-less c = search needs
+mul-if2 : tie.Need-mul-if2
+mul-if2 c = omega (arith, c .before .before .pre .few)
 
-loop-again : tie.Need-loop-again Inv-loop μ-loop
-loop-again c = (search needs, below-more _ _ (c .before .before .before .loop .inv .1) (c .if1 .left))
+element-copy-out-if2 : tie.Need-element-copy-out-if2
+element-copy-out-if2 c = omega (arith, c .before .before .pre .few)
 
-returns-2 : tie.Need-returns-2 Inv-loop μ-loop
+returns-2 : tie.Need-returns-2
 returns-2 c = λ m.
-    let start = c .before .before in
+    let found = c .before .before .before in
+    let start = found .before in
     let args = start .args in
-    let turn = c .before .loop in
-    sym (place-of-none (args .rows .now) m (args .live) (start .pre) (args .number) (λ k b. turn .inv .1 k (omega arith)))
+    let place = found .first-from .result in
+    sym (place-of-none (args .rows .now) m (args .live) (start .pre .few) (args .number)
+    (λ k b e. ⊎-elim
+    (λ early. omega (arith, found .first-from .ensures .1 .0 k early))
+    (λ late. ⊎-elim
+    (λ same. c .if2 .taken (sym (ap (λ k. getD (args .rows .now) (k * 16) 0) same) ∙ e))
+    (λ other. omega (arith, found .first-from .ensures .1 .1 place (omega arith) (omega arith), start .pre .rising place k (omega arith) b))
+    (equal-or-not k place))
+    (earlier-or-not k place)))
+
+returns-3 : tie.Need-returns-3
+returns-3 c = λ m.
+    let found = c .before .before .before in
+    let start = found .before in
+    let args = start .args in
+    sym (place-of-row (args .rows .now) m (args .live) (start .pre .few) (args .number) (found .first-from .result) (omega arith) (c .if2 .left)
+    (λ k b e. omega (arith, found .first-from .ensures .1 .0 k b)))
 
 pub place-of-spec : {M : Type 1} → statement M
 place-of-spec =
-    tie.close
-    (tie.spec
-    Inv-loop
-    μ-loop
-    loop-holds
-    mul-at
-    mul-if1
-    element-copy-out-if1
-    returns
-    add-i
-    loop-less
-    loop-again
-    returns-2)
+    tie.close (tie.spec first-from-requires returns mul-at mul-if2 element-copy-out-if2 returns-2 returns-3)

@@ -166,7 +166,7 @@ returns-3 c =
     refl
 
 marks-fit-requires : tie.Need-marks-fit-requires
-marks-fit-requires c κs = few-groups c
+marks-fit-requires c κs = record { few = few-groups c }
 
 refused-requires-4 : tie.Need-refused-requires-4
 refused-requires-4 c κs = search needs
@@ -181,7 +181,7 @@ returns-4 c =
     refl
 
 types-fit-requires : tie.Need-types-fit-requires
-types-fit-requires c κs = few-groups (c .before .before)
+types-fit-requires c κs = record { few = few-groups (c .before .before) }
 
 refused-requires-5 : tie.Need-refused-requires-5
 refused-requires-5 c κs = search needs
@@ -202,7 +202,7 @@ group-sizes-requires : tie.Need-group-sizes-requires
 group-sizes-requires c κs = omega (arith, all-marks (c .before .before .before))
 
 sizes-fit-requires : tie.Need-sizes-fit-requires
-sizes-fit-requires c κs = few-groups (c .before .before .before .before .before .before)
+sizes-fit-requires c κs = record { few = few-groups (c .before .before .before .before .before .before) }
 
 refused-requires-6 : tie.Need-refused-requires-6
 refused-requires-6 c κs = search needs
@@ -219,7 +219,7 @@ returns-6 c =
 number-of-ways-requires : tie.Need-number-of-ways-requires
 number-of-ways-requires c κs =
     let counted = c .before .before in
-    few-groups (counted .before .before .before .before .before .before)
+    record { few = few-groups (counted .before .before .before .before .before .before) }
 
 lone-special-requires : tie.Need-lone-special-requires
 lone-special-requires c κs = search needs
@@ -258,8 +258,9 @@ charge-of-requires : tie.Need-charge-of-requires
 charge-of-requires c κs =
     let counted = c .before .before .before .before .before in
     let sized = counted .before .before .before in
-    rw (counted .number-of-ways .ensures)
-    (ways-few _ (few-groups (sized .before .before .before .before .before .before)))
+    record {
+      few = rw (counted .number-of-ways .ensures) (ways-few _ (few-groups (sized .before .before .before .before .before .before)));
+    }
 
 refused-requires-9 : tie.Need-refused-requires-9
 refused-requires-9 c κs = search needs

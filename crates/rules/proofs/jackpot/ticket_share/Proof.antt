@@ -9,16 +9,16 @@ use Rattle.rules.proofs.jackpot.ticket_share.Tie as tie
 within : (c : tie.After-share-of) → c .before .args .count * c .share-of .result ≤ c .before .args .primary
 within c =
     rw (c .share-of .ensures)
-    (ticket-within (c .before .args .primary) (c .before .args .stakes) (c .before .pre .0 .won) (c .before .args .count) (c .before .args .stake) (c .before .pre .0 .part))
+    (ticket-within (c .before .args .primary) (c .before .args .stakes) (c .before .pre .sharing .won) (c .before .args .count) (c .before .args .stake) (c .before .pre .sharing .part))
 
 share-of-requires : tie.Need-share-of-requires
 share-of-requires c κs =
     record {
-      pool = c .pre .0 .pool;
-      limit = c .pre .0 .limit;
-      total = c .pre .0 .total;
-      won = c .pre .0 .won;
-      part = le-trans (mul-le-mul-right (c .args .stake) (c .pre .1)) (c .pre .0 .part);
+      pool = c .pre .sharing .pool;
+      limit = c .pre .sharing .limit;
+      total = c .pre .sharing .total;
+      won = c .pre .sharing .won;
+      part = le-trans (mul-le-mul-right (c .args .stake) (c .pre .some)) (c .pre .sharing .part);
       few = omega arith;
     }
 

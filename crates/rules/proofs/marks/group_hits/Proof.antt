@@ -32,13 +32,15 @@ mark-of-requires : tie.Need-mark-of-requires Inv-loop μ-loop
 mark-of-requires c κs = search needs
 
 with-mark-requires : tie.Need-with-mark-requires Inv-loop μ-loop
-with-mark-requires c κs k =
+with-mark-requires c κs =
     let at-loop = c .before .before in
     let start = at-loop .before .before .before in
     let mark = markOf (start .args .marks .now) in
     let passed = take (at-loop .loop .i) (start .args .draw .balls) in
-    rw (at-loop .loop .inv .1)
-    (omega (arith, figure-le (map mark passed) k, length-map passed mark, length-take (at-loop .loop .i) (start .args .draw .balls)))
+    record {
+      room = λ k. rw (at-loop .loop .inv .1)
+          (omega (arith, figure-le (map mark passed) k, length-map passed mark, length-take (at-loop .loop .i) (start .args .draw .balls)));
+    }
 
 add-i : tie.Need-add-i Inv-loop μ-loop
 add-i c = omega arith

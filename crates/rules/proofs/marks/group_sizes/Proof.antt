@@ -23,11 +23,10 @@ shared-slice-read-mark : tie.Need-shared-slice-read-mark Inv-loop μ-loop
 shared-slice-read-mark c = omega arith
 
 with-mark-requires : tie.Need-with-mark-requires Inv-loop μ-loop
-with-mark-requires c κs k =
+with-mark-requires c κs =
     let marks = c .before .before .before .before .args .marks .now in
     let i = c .before .before .loop .i in
-    rw (c .before .before .loop .inv .1)
-    (omega (arith, figure-le (take i marks) k, length-take i marks))
+    record { room = λ k. rw (c .before .before .loop .inv .1) (omega (arith, figure-le (take i marks) k, length-take i marks)) }
 
 add-i : tie.Need-add-i Inv-loop μ-loop
 add-i c = omega arith

@@ -16,7 +16,7 @@ array-read-next : tie.Need-array-read-next
 array-read-next c = omega (arith, leb-true)
 
 add-next : tie.Need-add-next
-add-next c = omega (arith, c .before .before .pre (c .before .before .args .mark - 1))
+add-next c = omega (arith, c .before .before .pre .room (c .before .before .args .mark - 1))
 
 array-write-next : tie.Need-array-write-next
 array-write-next c = omega (arith, leb-true)

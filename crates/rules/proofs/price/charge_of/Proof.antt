@@ -10,7 +10,7 @@ use Rattle.rules.proofs.price.charge_of.Tie as tie
 stakes : (c : tie.Start) → c .args .stake * c .args .count ≤ 4294967295 * 255
 stakes c =
     let stake : c .args .stake ≤ 4294967295 = omega arith in
-    mul-le-mul stake (c .pre)
+    mul-le-mul stake (c .pre .few)
 
 mul-result : tie.Need-mul-result
 mul-result c = omega (arith, stakes c)

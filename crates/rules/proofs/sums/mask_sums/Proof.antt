@@ -7,7 +7,7 @@ use Rattle.rules.proofs.sums.mask_sums.Statement.{statement}
 use Rattle.rules.proofs.sums.mask_sums.Tie as tie
 
 nominates-requires : tie.Need-nominates-requires
-nominates-requires c κs = ones-le 8 _ (c .pre .0)
+nominates-requires c κs = record { few = ones-le 8 _ (c .pre .0) }
 
 none-requires : tie.Need-none-requires
 none-requires c κs = search needs

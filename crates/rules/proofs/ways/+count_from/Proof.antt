@@ -38,7 +38,7 @@ module _ (t : ℕ) where
       omega arith
 
   count-one-requires : lts.Need-count-one-requires called given count-from.Post
-  count-one-requires c κs = mask-lt (c .before .pre .1 .0)
+  count-one-requires c κs = record { groups = omega arith; chosen = mask-lt (c .before .pre .1 .0) }
 
   returns : lts.Need-returns called given count-from.Post
   returns c =

@@ -6,7 +6,7 @@ use Rattle.rules.proofs.ways.count_one.Statement.{statement}
 use Rattle.rules.proofs.ways.count_one.Tie as tie
 
 nominates-requires : tie.Need-nominates-requires
-nominates-requires c κs = ones-le 8 _ (c .pre)
+nominates-requires c κs = record { few = ones-le 8 _ (c .pre .chosen) }
 
 returns : tie.Need-returns
 returns c = simp (sym (c .before .nominates .ensures) ∙ not-true _ (c .if1 .taken))

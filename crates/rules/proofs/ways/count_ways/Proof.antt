@@ -8,7 +8,7 @@ use Rattle.rules.proofs.ways.count_ways.Statement.{statement}
 use Rattle.rules.proofs.ways.count_ways.Tie as tie
 
 count-from-requires : tie.Need-count-from-requires
-count-from-requires c κs = (start-place (c .pre), start-carried (c .args .groups) (c .args .sizes))
+count-from-requires c κs = (start-place (c .pre .few), start-carried (c .args .groups) (c .args .sizes))
 
 returns : tie.Need-returns
 unfolding waySizes

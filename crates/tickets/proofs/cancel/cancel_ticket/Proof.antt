@@ -22,7 +22,7 @@ use Rattle.house.proofs.Refusals.{operands-accepted, cancel-accepted}
 use Rattle.house.proofs.SheetFigures.{paid-games-within}
 use Rattle.house.proofs.Bounded.{stake-within, ways-within, span-paid-within}
 use Rattle.house.proofs.ReachedHouses.{reached-sure}
-use Rattle.house.proofs.ViewLaws.{carried-refused, carried-done, view-drawing, view-few, view-by}
+use Rattle.house.proofs.ViewLaws.{carried-refused, carried-done, view-drawing, view-by}
 use Rattle.tickets.proofs.FoundTickets.{Found, first-met-above, found-few, found-rest, found-within, found-ticket, found-holds, found-changed}
 use Rattle.tickets.proofs.cancel.cancel_ticket.Statement.{statement}
 use Rattle.tickets.proofs.cancel.cancel_ticket.Tie as tie
@@ -174,7 +174,7 @@ ticket-at c =
     ∙ ap₂ (λ row stop. finishedOn (house .day) (house .game) (withStop (ticketFrom row (own found)) stop)) (c .before .before .before .before .before .before .before .read-row .ensures) (stop-at (c .before .before .before .before .before))
 
 look-up-requires : tie.Need-look-up-requires
-look-up-requires c κs = view-few _ _ _ (reached-sure _ (c .before .pre))
+look-up-requires c κs = record { marks = c .before .args .marks .now; reached = c .before .pre }
 
 refused-requires : tie.Need-refused-requires
 refused-requires c κs = search needs

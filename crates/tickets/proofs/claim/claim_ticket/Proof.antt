@@ -17,7 +17,7 @@ use Rattle.house.specs.declared.state.House.{House}
 use Rattle.house.proofs.Ledger.{withLive}
 use Rattle.house.proofs.Refusals.{claim-accepted}
 use Rattle.house.proofs.ReachedHouses.{reached-sure}
-use Rattle.house.proofs.ViewLaws.{carried-refused, carried-done, view-few, view-by}
+use Rattle.house.proofs.ViewLaws.{carried-refused, carried-done, view-by}
 use Rattle.tickets.proofs.FoundTickets.{Found, first-met-above, found-few, found-rest, found-within, found-ticket, found-holds, found-changed}
 use Rattle.tickets.proofs.claim.claim_ticket.Statement.{statement}
 use Rattle.tickets.proofs.claim.claim_ticket.Tie as tie
@@ -111,7 +111,7 @@ code-at c =
     ∙ sym (c .claim-code .ensures _)
 
 look-up-requires : tie.Need-look-up-requires
-look-up-requires c κs = view-few _ _ _ (reached-sure _ (c .before .pre))
+look-up-requires c κs = record { marks = c .before .args .marks .now; reached = c .before .pre }
 
 refused-requires : tie.Need-refused-requires
 refused-requires c κs = search needs

@@ -1,4 +1,4 @@
--- `house::lookup::look_up` meets its contract: each return is one row of the table that Cancel and Claim begin with, or past them all.
+-- `tickets::lookup::look_up` meets its contract: each return is one row of the table that Cancel and Claim begin with, or past them all.
 use Prim.Native.Nat.{ℕ, _≤_}
 use native.Mathlib.Omega.{arith}
 use mathlib.Core.Path.{_≡_, refl, sym, ap, _∙_}
@@ -10,9 +10,11 @@ use borrow.Author.Needs.{needs}
 use borrow.Author.Tests.{lt-ltb, le-ltb, eq-eqb, ne-eqb}
 use Rattle.rules.specs.Checks.{firstMet}
 use Rattle.house.specs.Commands.{hasTicket, lookupRows}
-use Rattle.house.specs.View.{ticketsOf, placeOf, view}
+use Rattle.house.specs.View.{ticketsOf, placeOf, RisingRows, view}
 use Rattle.house.specs.declared.state.House.{House}
-use Rattle.house.proofs.ViewLaws.{view-live, view-has}
+use Rattle.house.specs.Parts.{ComesWith}
+use Rattle.house.proofs.ReachedHouses.{reached-sure}
+use Rattle.house.proofs.ViewLaws.{view-live, view-has, view-few, view-rising}
 use Rattle.tickets.proofs.lookup.look_up.Statement.{statement}
 use Rattle.tickets.proofs.lookup.look_up.Tie as tie
 
@@ -37,6 +39,13 @@ module _ (h : House) (words : List ℕ) (n : ℕ) where
     has : hasTicket n (view h words marks .live) ≡ ltb place (h .live)
     has = view-has h words marks n ∙ ap (λ p. ltb p (h .live)) (sym placed)
 
+-- what a house that comes from a fresh one by commands gives of its rows
+rising-rows : {h : House} {words : List ℕ} → ComesWith h words → RisingRows words (h .live)
+rising-rows {h} {words} comes = view-rising h words (comes .marks) (reached-sure _ (comes .reached))
+
+few : {h : House} {words : List ℕ} → ComesWith h words → h .live ≤ 200
+few {h} {words} comes = rising-rows comes .few
+
 returns : tie.Need-returns
 returns c =
     let args = c .before .before .args in
@@ -60,7 +69,7 @@ returns-3 c =
     )
 
 place-of-requires : tie.Need-place-of-requires
-place-of-requires c κs = search needs
+place-of-requires c κs = rising-rows (c .before .before .before .before .before .pre)
 
 returns-4 : tie.Need-returns-4
 returns-4 c =
@@ -69,7 +78,7 @@ returns-4 c =
       λ marks. by-tests (args .house) (args .rows .now) (args .ticket) false false true marks
           (ne-eqb (args .house .day) 0 (c .before .before .before .before .before .if1 .left))
           (rw (ne-eqb (args .ticket) 0 (c .before .before .before .before .if2 .left)) (le-ltb (args .house .issued) (args .ticket) (c .before .before .if3 .left)))
-          (ap not (has (args .house) (args .rows .now) (args .ticket) (start .pre) (c .before .place-of .result) marks (c .before .place-of .ensures marks) ∙ le-ltb _ _ (c .if4 .taken))),
+          (ap not (has (args .house) (args .rows .now) (args .ticket) (few (start .pre)) (c .before .place-of .result) marks (c .before .place-of .ensures marks) ∙ le-ltb _ _ (c .if4 .taken))),
       λ marks e. omega arith,
     )
 
@@ -80,8 +89,8 @@ returns-5 c =
       λ marks. by-tests (args .house) (args .rows .now) (args .ticket) false false false marks
           (ne-eqb (args .house .day) 0 (c .before .before .before .before .before .if1 .left))
           (rw (ne-eqb (args .ticket) 0 (c .before .before .before .before .if2 .left)) (le-ltb (args .house .issued) (args .ticket) (c .before .before .if3 .left)))
-          (ap not (has (args .house) (args .rows .now) (args .ticket) (start .pre) (c .before .place-of .result) marks (c .before .place-of .ensures marks) ∙ lt-ltb _ _ (c .if4 .left))),
-      λ marks e. placed (args .house) (args .rows .now) (args .ticket) (start .pre) (c .before .place-of .result) marks (c .before .place-of .ensures marks),
+          (ap not (has (args .house) (args .rows .now) (args .ticket) (few (start .pre)) (c .before .place-of .result) marks (c .before .place-of .ensures marks) ∙ lt-ltb _ _ (c .if4 .left))),
+      λ marks e. placed (args .house) (args .rows .now) (args .ticket) (few (start .pre)) (c .before .place-of .result) marks (c .before .place-of .ensures marks),
     )
 
 pub look-up-spec : {M : Type 1} → statement M
