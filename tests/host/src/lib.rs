@@ -8,5 +8,5 @@
 mod exported;
 mod lounge;
 
-pub use exported::{Jackpot, Pools, Till};
+pub use exported::{Jackpot, Pools, Till, ANSWER_BYTES};
 pub use lounge::{Lounge, Report, Rows, RowsOfMarks};

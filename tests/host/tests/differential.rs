@@ -53,6 +53,23 @@ fn short_rolls_by_command() {
     print_counts("by command", &pair);
 }
 
+/// Through the function for one command, every stop among them.
+#[test]
+fn commands_one_by_one() {
+    let mut rolls = mixed::mixed_set(11, 40, 1_000);
+    rolls.extend(damaged::damaged_set(11, 60));
+    rolls.extend(damaged::noise(11, 40));
+    rolls.extend(edge_rolls().into_iter().skip(1));
+    let mut pair = Pair::fresh();
+    for roll in rolls {
+        pair.start_anew();
+        assert_eq!(pair.give_one_by_one(&roll), Ok(()), "{roll:?}");
+    }
+    pair.counts.coverage.check(&FAR_CODES).unwrap();
+    assert!(pair.counts.commands >= 150_000);
+    print_counts("one by one", &pair);
+}
+
 /// Whole rolls at once, in a book with room for all answers.
 #[test]
 fn mixed_rolls() {
@@ -140,5 +157,6 @@ fn every_flaw_is_found() {
         let roll = roll.unwrap_or_else(|| panic!("{flaw:?} makes no difference"));
         let found = Pair::flawed(flaw).read_by_command(roll);
         println!("{flaw:?}: {}", found.expect_err("the same roll, command by command"));
+        Pair::flawed(flaw).give_one_by_one(roll).expect_err("the same roll, one by one");
     }
 }
