@@ -2,6 +2,10 @@
 
 use reference::Command;
 
+/// A sample of short commands has at least so many, so that the clock's own time
+/// counts little.
+const COMMANDS_A_SAMPLE: usize = 16;
+
 pub struct Case {
     pub name: String,
     /// Brings a fresh house to where the measured roll begins.
@@ -13,6 +17,9 @@ pub struct Case {
     pub code: Option<u8>,
     /// What the time is divided by: the commands, or 1 for the whole roll.
     pub shares: usize,
+    /// A sample runs the roll on so many houses, one after another. Many would not
+    /// fit the nearer caches.
+    pub houses: usize,
 }
 
 impl Case {
@@ -26,8 +33,9 @@ impl Case {
         command: impl Fn(usize) -> Command,
     ) -> Case {
         let measured = (0..commands).flat_map(|index| command(index).encode()).collect();
+        let houses = COMMANDS_A_SAMPLE.div_ceil(commands);
         let name = name.to_string();
-        Case { name, before, measured, commands, code: Some(code), shares: commands }
+        Case { name, before, measured, commands, code: Some(code), shares: commands, houses }
     }
 }
 

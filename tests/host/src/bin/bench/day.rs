@@ -18,7 +18,7 @@ pub fn case() -> Case {
     let (before, measured) = (roll[..at].to_vec(), roll[at..].to_vec());
     let commands = count_commands(&measured);
     let name = format!("a day's roll of {commands} commands");
-    Case { name, before, measured, commands, code: None, shares: 1 }
+    Case { name, before, measured, commands, code: None, shares: 1, houses: 1 }
 }
 
 fn count_commands(roll: &[u8]) -> usize {

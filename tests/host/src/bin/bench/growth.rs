@@ -32,9 +32,10 @@ fn paid_claims(live: u32) -> Case {
     Case::repeated(&name, writer.finish(), 0, live as usize, claim)
 }
 
-/// The first nineteen of a game.
+/// The first nineteen of the second game.
 fn balls(live: u32) -> Case {
     let mut writer = RollWriter::opened();
+    writer.balls(&twenty());
     sell(&mut writer, live);
     let name = format!("ball, not the twentieth, {live} live");
     Case::repeated(&name, writer.finish(), 0, 19, |index| Command::Ball { number: index as u8 + 1 })

@@ -2,9 +2,9 @@
 //! medians and their ratio, proved / reference.
 //!
 //! Both run the same bytes from the same house, and their answers are compared
-//! first. The copy of the house that a sample runs on is made, and dropped,
-//! outside the measured time. The two take turns, so that what else the machine
-//! does meets both.
+//! first. Bringing a house to where the measured roll begins is outside the
+//! measured time. The two take turns, so that what else the machine does meets
+//! both.
 
 mod case;
 mod commands;

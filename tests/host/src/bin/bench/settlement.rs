@@ -39,7 +39,15 @@ fn last_ball(name: &str, roll: &[u8]) -> Case {
         if balls == 20 {
             let (before, measured) = (roll[..at].to_vec(), roll[at..at + size].to_vec());
             let name = name.to_string();
-            return Case { name, before, measured, commands: 1, code: Some(0), shares: 1 };
+            return Case {
+                name,
+                before,
+                measured,
+                commands: 1,
+                code: Some(0),
+                shares: 1,
+                houses: 1,
+            };
         }
         at += size;
     }
