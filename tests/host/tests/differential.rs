@@ -10,6 +10,7 @@ use rolls::{damaged, everything, mixed, NamedRoll};
 use side_by_side::edges::edge_rolls;
 use side_by_side::lucky::lucky_rolls;
 use side_by_side::Pair;
+use std::sync::OnceLock;
 
 const SEEDS: [u64; 4] = [1998, 7, 65_537, 0xF00D];
 
@@ -22,8 +23,10 @@ fn print_counts(what: &str, pair: &Pair) {
     println!("{what}: {} commands, {accepted}% accepted, {} tills", counts.commands, counts.tills);
 }
 
-fn all_rolls() -> impl Iterator<Item = NamedRoll> {
-    SEEDS.into_iter().flat_map(everything)
+/// Made once for all tests.
+fn all_rolls() -> &'static [NamedRoll] {
+    static ROLLS: OnceLock<Vec<NamedRoll>> = OnceLock::new();
+    ROLLS.get_or_init(|| SEEDS.into_iter().flat_map(everything).collect())
 }
 
 #[test]
@@ -42,7 +45,7 @@ fn every_roll_through_a_book_of_a_hundred_answers() {
 #[test]
 fn short_rolls_by_command() {
     let mut pair = Pair::fresh();
-    for roll in all_rolls().filter(|roll| roll.bytes.len() <= SHORT) {
+    for roll in all_rolls().iter().filter(|roll| roll.bytes.len() <= SHORT) {
         pair.start_anew();
         assert_eq!(pair.read_by_command(&roll.bytes), Ok(()), "{}", roll.name);
     }
@@ -149,7 +152,7 @@ fn books_of_every_small_size() {
 #[test]
 fn every_flaw_is_found() {
     let mut rolls = lucky_rolls(41, 20);
-    rolls.extend(everything(SEEDS[0]).into_iter().map(|roll| roll.bytes));
+    rolls.extend(all_rolls().iter().map(|roll| roll.bytes.clone()));
     for flaw in Flaw::ALL {
         let differs =
             |roll: &&Vec<u8>| Pair::flawed(flaw).read_through(roll, 100 * ANSWER_BYTES).is_err();
