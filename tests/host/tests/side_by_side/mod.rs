@@ -138,8 +138,10 @@ impl Pair {
     }
 
     /// The first command of the bytes: for the reference a roll with a book of one
-    /// answer.
+    /// answer. Refused, or no command, it must leave every byte of the house, the
+    /// rows and the marks as it was.
     fn give_first(&mut self, bytes: &[u8]) -> Result<Report, Difference> {
+        let before = self.lounge.clone();
         let mut answer = [BLANK; ANSWER_BYTES];
         let mut book = answer;
         let proved = self.lounge.command(bytes, &mut answer);
@@ -148,6 +150,9 @@ impl Pair {
         same("bytes read", proved.read, reference.read)?;
         same("answers", proved.answers, reference.answers)?;
         same("answer", answer, book)?;
+        if (proved.answers == 0 || answer[1] != 0) && before != self.lounge {
+            return Err("what was not carried out left a trace".into());
+        }
         self.counts.coverage.count_book(&answer[..proved.answers * ANSWER_BYTES]);
         self.counts.coverage.count_stop(proved.stop);
         self.counts.commands += proved.answers as u64;
