@@ -1,9 +1,15 @@
 //! The exported functions and the structs they pass, field for field as the
 //! Rattle crates declare them.
 
+#[cfg(test)]
+mod layout;
+
 /// Words and marks of 200 tickets.
 pub const WORDS: usize = 3_200;
 pub const MARKS: usize = 16_000;
+
+/// Bytes of an answer: command byte, code, number (4), cents (8).
+pub const ANSWER_BYTES: usize = 14;
 
 /// Three pools and the seed debt of a jackpot, in cents.
 #[repr(C)]
@@ -88,6 +94,15 @@ pub struct Listed {
 // A lent slice is its first element's address and its length.
 extern "C" {
     pub fn wulipday_fresh() -> House;
+
+    pub fn wulipday_command(
+        house: House,
+        rows: &mut [u64; WORDS],
+        marks: &mut [u8; MARKS],
+        command: *const u8,
+        command_length: usize,
+        answer: &mut [u8; ANSWER_BYTES],
+    ) -> Report;
 
     pub fn wulipday_roll(
         house: House,

@@ -1,6 +1,6 @@
 //! A house with its tickets, safe to use.
 
-use crate::exported::{self, House, Pools, Till, MARKS, WORDS};
+use crate::exported::{self, House, Pools, Till, ANSWER_BYTES, MARKS, WORDS};
 
 /// What the core keeps of 200 tickets, sixteen words each.
 pub type Rows = Box<[u64; WORDS]>;
@@ -9,8 +9,8 @@ pub type RowsOfMarks = Box<[u8; MARKS]>;
 
 /// The house, its rows and its marks.
 ///
-/// It begins fresh, and nothing but [`Lounge::roll`] changes it, which is what
-/// every part of the core relies on.
+/// It begins fresh, and nothing but [`Lounge::command`] and [`Lounge::roll`]
+/// changes it, which is what every part of the core relies on.
 #[derive(Clone, Debug, PartialEq, Eq)]
 pub struct Lounge {
     house: House,
@@ -45,9 +45,29 @@ impl Lounge {
         Lounge { house, rows, marks }
     }
 
+    /// Carries out the first command of the bytes and writes its answer.
+    ///
+    /// Stop 0: the bytes were one command, or none. Stop 3: more bytes follow
+    /// the command that was answered. Stops 1 and 2: there is no command, and
+    /// nothing was done or written.
+    pub fn command(&mut self, command: &[u8], answer: &mut [u8; ANSWER_BYTES]) -> Report {
+        // Safety: as in `roll`.
+        let report = unsafe {
+            exported::wulipday_command(
+                self.house,
+                &mut self.rows,
+                &mut self.marks,
+                command.as_ptr(),
+                command.len(),
+                answer,
+            )
+        };
+        self.keep(report)
+    }
+
     /// Runs the commands of a roll and writes 14 bytes for each into the book.
     pub fn roll(&mut self, roll: &[u8], book: &mut [u8]) -> Report {
-        // Safety: house, rows and marks are as the last roll left them, and the
+        // Safety: house, rows and marks are as the last call left them, and the
         // first one had a fresh house. No two of the lent places overlap.
         let report = unsafe {
             exported::wulipday_roll(
@@ -60,6 +80,11 @@ impl Lounge {
                 book.len(),
             )
         };
+        self.keep(report)
+    }
+
+    /// The house after a call takes the place of the one before it.
+    fn keep(&mut self, report: exported::Report) -> Report {
         self.house = report.house;
         Report { stop: report.stop, read: report.read, answers: report.answers }
     }

@@ -10,6 +10,7 @@ use rolls::{damaged, everything, mixed, NamedRoll};
 use side_by_side::edges::edge_rolls;
 use side_by_side::lucky::lucky_rolls;
 use side_by_side::Pair;
+use std::sync::OnceLock;
 
 const SEEDS: [u64; 4] = [1998, 7, 65_537, 0xF00D];
 
@@ -22,8 +23,10 @@ fn print_counts(what: &str, pair: &Pair) {
     println!("{what}: {} commands, {accepted}% accepted, {} tills", counts.commands, counts.tills);
 }
 
-fn all_rolls() -> impl Iterator<Item = NamedRoll> {
-    SEEDS.into_iter().flat_map(everything)
+/// Made once for all tests.
+fn all_rolls() -> &'static [NamedRoll] {
+    static ROLLS: OnceLock<Vec<NamedRoll>> = OnceLock::new();
+    ROLLS.get_or_init(|| SEEDS.into_iter().flat_map(everything).collect())
 }
 
 #[test]
@@ -42,7 +45,7 @@ fn every_roll_through_a_book_of_a_hundred_answers() {
 #[test]
 fn short_rolls_by_command() {
     let mut pair = Pair::fresh();
-    for roll in all_rolls().filter(|roll| roll.bytes.len() <= SHORT) {
+    for roll in all_rolls().iter().filter(|roll| roll.bytes.len() <= SHORT) {
         pair.start_anew();
         assert_eq!(pair.read_by_command(&roll.bytes), Ok(()), "{}", roll.name);
     }
@@ -51,6 +54,23 @@ fn short_rolls_by_command() {
     assert_eq!(pair.counts.coverage.impossible(), [""; 0]);
     assert!(pair.counts.commands >= 300_000);
     print_counts("by command", &pair);
+}
+
+/// Through the function for one command, every stop among them.
+#[test]
+fn commands_one_by_one() {
+    let mut rolls = mixed::mixed_set(11, 20, 1_000);
+    rolls.extend(damaged::damaged_set(11, 60));
+    rolls.extend(damaged::noise(11, 40));
+    rolls.extend(edge_rolls().into_iter().skip(1));
+    let mut pair = Pair::fresh();
+    for roll in rolls {
+        pair.start_anew();
+        assert_eq!(pair.give_one_by_one(&roll), Ok(()), "{roll:?}");
+    }
+    pair.counts.coverage.check(&FAR_CODES).unwrap();
+    assert!(pair.counts.commands >= 90_000);
+    print_counts("one by one", &pair);
 }
 
 /// Whole rolls at once, in a book with room for all answers.
@@ -132,7 +152,7 @@ fn books_of_every_small_size() {
 #[test]
 fn every_flaw_is_found() {
     let mut rolls = lucky_rolls(41, 20);
-    rolls.extend(everything(SEEDS[0]).into_iter().map(|roll| roll.bytes));
+    rolls.extend(all_rolls().iter().map(|roll| roll.bytes.clone()));
     for flaw in Flaw::ALL {
         let differs =
             |roll: &&Vec<u8>| Pair::flawed(flaw).read_through(roll, 100 * ANSWER_BYTES).is_err();
@@ -140,5 +160,6 @@ fn every_flaw_is_found() {
         let roll = roll.unwrap_or_else(|| panic!("{flaw:?} makes no difference"));
         let found = Pair::flawed(flaw).read_by_command(roll);
         println!("{flaw:?}: {}", found.expect_err("the same roll, command by command"));
+        Pair::flawed(flaw).give_one_by_one(roll).expect_err("the same roll, one by one");
     }
 }

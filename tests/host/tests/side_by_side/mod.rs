@@ -7,7 +7,7 @@
 pub mod edges;
 pub mod lucky;
 
-use host::Lounge;
+use host::{Lounge, Report};
 use reference::command::{length, BALL};
 use reference::roll::{ANSWER_BYTES, STOP_BOOK_FULL};
 use reference::till::FIGURES;
@@ -119,6 +119,44 @@ impl Pair {
             place += 1;
         }
         self.read(unread, ANSWER_BYTES).map(|_| ())
+    }
+
+    /// Gives the house one command of a roll after another, with all the rest of
+    /// the roll behind it, and compares the houses after each.
+    pub fn give_one_by_one(&mut self, roll: &[u8]) -> Result<(), Difference> {
+        let mut unread = roll;
+        for place in 0.. {
+            let at = |found| format!("command {place}: {found}");
+            let proved = self.give_first(unread).map_err(at)?;
+            self.compare().map_err(at)?;
+            unread = &unread[proved.read..];
+            if proved.stop != STOP_BOOK_FULL {
+                break;
+            }
+        }
+        Ok(())
+    }
+
+    /// The first command of the bytes: for the reference a roll with a book of one
+    /// answer. Refused, or no command, it must leave every byte of the house, the
+    /// rows and the marks as it was.
+    fn give_first(&mut self, bytes: &[u8]) -> Result<Report, Difference> {
+        let before = self.lounge.clone();
+        let mut answer = [BLANK; ANSWER_BYTES];
+        let mut book = answer;
+        let proved = self.lounge.command(bytes, &mut answer);
+        let reference = run_roll(&mut self.house, bytes, &mut book);
+        same("stop", proved.stop, reference.stop)?;
+        same("bytes read", proved.read, reference.read)?;
+        same("answers", proved.answers, reference.answers)?;
+        same("answer", answer, book)?;
+        if (proved.answers == 0 || answer[1] != 0) && before != self.lounge {
+            return Err("what was not carried out left a trace".into());
+        }
+        self.counts.coverage.count_book(&answer[..proved.answers * ANSWER_BYTES]);
+        self.counts.coverage.count_stop(proved.stop);
+        self.counts.commands += proved.answers as u64;
+        Ok(proved)
     }
 
     /// One command. Refused, it must leave every byte of the house, the rows

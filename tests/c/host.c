@@ -1,0 +1,256 @@
+/* A host in C: document 01's printed roll, one command at a time and in one roll,
+ * a game with a winner and two jackpot hits, and every stop and refusal of the
+ * boundary. Ends with 0, or with 1 and a message for each check that fails. */
+#include "wulipday.h"
+
+#include <stdio.h>
+#include <string.h>
+
+#define BLANK 0xA5
+#define SALE_BYTES 89
+
+static int failures = 0;
+
+#define CHECK(condition) check((condition), __LINE__, #condition)
+
+static void check(bool holds, int line, const char *condition)
+{
+    if (!holds) {
+        fprintf(stderr, "tests/c/host.c:%d: %s does not hold\n", line, condition);
+        failures++;
+    }
+}
+
+/* What a host keeps. */
+typedef struct {
+    wulipday_house house;
+    uint64_t rows[WULIPDAY_WORDS];
+    uint8_t marks[WULIPDAY_MARKS];
+} lounge;
+
+typedef struct {
+    unsigned command;
+    unsigned code;
+    uint32_t number;
+    uint64_t cents;
+} answer;
+
+/* Fresh, in buffers that hold something. */
+static void open_lounge(lounge *lounge)
+{
+    memset(lounge->rows, BLANK, sizeof lounge->rows);
+    memset(lounge->marks, BLANK, sizeof lounge->marks);
+    lounge->house = wulipday_fresh();
+}
+
+static uint64_t high_byte_first(const uint8_t *bytes, size_t count)
+{
+    uint64_t number = 0;
+    for (size_t place = 0; place < count; place++)
+        number = number * 256 + bytes[place];
+    return number;
+}
+
+static bool all_blank(const uint8_t *bytes, size_t count)
+{
+    for (size_t place = 0; place < count; place++)
+        if (bytes[place] != BLANK)
+            return false;
+    return true;
+}
+
+static bool answered(const uint8_t *record, answer expected)
+{
+    return record[0] == expected.command && record[1] == expected.code
+        && high_byte_first(record + 2, 4) == expected.number
+        && high_byte_first(record + 6, 8) == expected.cents;
+}
+
+/* One command, all of the bytes, with the answer it is to get. */
+static bool gives(lounge *lounge, const uint8_t *command, size_t length, answer expected)
+{
+    uint8_t record[WULIPDAY_ANSWER_BYTES];
+    wulipday_report report = wulipday_command(lounge->house, lounge->rows, lounge->marks, command,
+                                              length, record);
+    lounge->house = report.house;
+    return report.stop == WULIPDAY_STOP_END && report.read == length && report.answers == 1
+        && answered(record, expected);
+}
+
+/* A ticket of one way for one game, on the numbers from first on. */
+static void write_sale(uint8_t sale[SALE_BYTES], uint8_t kind, uint8_t stake, uint8_t first,
+                       uint8_t numbers)
+{
+    const uint8_t operands[] = {2, kind, 1, 0, 0, 0, stake, 1, 1};
+    memset(sale, 0, SALE_BYTES);
+    memcpy(sale, operands, sizeof operands);
+    memset(sale + sizeof operands + first - 1, 1, numbers);
+}
+
+static const uint8_t open_day_1[] = {1, 0, 1};
+static const uint8_t cancel_1[] = {3, 0, 0, 0, 1};
+static const uint8_t claim_1[] = {5, 0, 0, 0, 1};
+static const uint8_t claim_2[] = {5, 0, 0, 0, 2};
+
+static const answer printed[] = {{1, 0, 1, 0}, {2, 0, 1, 100}, {3, 0, 1, 100}, {5, 19, 0, 0}};
+
+static size_t write_printed_roll(uint8_t roll[102])
+{
+    memcpy(roll, open_day_1, 3);
+    write_sale(roll + 3, 0, 100, 1, 1);
+    memcpy(roll + 92, cancel_1, 5);
+    memcpy(roll + 97, claim_1, 5);
+    return 102;
+}
+
+/* till 100 1350000 0 100 0 0 0 1350000 0 */
+static void check_printed_till(const lounge *lounge)
+{
+    wulipday_till_figures till = wulipday_till(lounge->house, lounge->rows);
+    CHECK(till.taken == 100 && till.seeds == 1350000 && till.paid == 0);
+    CHECK(till.refunded == 100 && till.owed == 0 && till.held == 0);
+    CHECK(till.unclaimed == 0 && till.pooled == 1350000);
+    CHECK(till.retained == 0 && !till.negative);
+}
+
+static void printed_roll_at_once(lounge *lounge)
+{
+    uint8_t roll[102];
+    uint8_t book[4 * WULIPDAY_ANSWER_BYTES + 5];
+    size_t length = write_printed_roll(roll);
+    memset(book, BLANK, sizeof book);
+    open_lounge(lounge);
+    wulipday_report report = wulipday_roll(lounge->house, lounge->rows, lounge->marks, roll, length,
+                                           book, sizeof book);
+    lounge->house = report.house;
+    CHECK(report.stop == WULIPDAY_STOP_END && report.read == 102 && report.answers == 4);
+    for (size_t place = 0; place < 4; place++)
+        CHECK(answered(book + place * WULIPDAY_ANSWER_BYTES, printed[place]));
+    CHECK(all_blank(book + 4 * WULIPDAY_ANSWER_BYTES, 5));
+    check_printed_till(lounge);
+}
+
+/* The roll is passed whole each time, from where the last call ended. */
+static void printed_roll_by_command(lounge *lounge)
+{
+    uint8_t roll[102];
+    size_t length = write_printed_roll(roll);
+    size_t read = 0;
+    open_lounge(lounge);
+    for (size_t place = 0; place < 4; place++) {
+        uint8_t record[WULIPDAY_ANSWER_BYTES];
+        wulipday_report report = wulipday_command(lounge->house, lounge->rows, lounge->marks,
+                                                  roll + read, length - read, record);
+        lounge->house = report.house;
+        read += report.read;
+        CHECK(report.stop == (place < 3 ? WULIPDAY_STOP_BOOK_FULL : WULIPDAY_STOP_END));
+        CHECK(report.answers == 1 && answered(record, printed[place]));
+    }
+    CHECK(read == length);
+    check_printed_till(lounge);
+}
+
+/* Bytes that are no command: nothing is done and nothing is written. */
+static void no_command(lounge *lounge)
+{
+    static const uint8_t unknown[] = {8, 0, 1};
+    uint8_t record[WULIPDAY_ANSWER_BYTES];
+    memset(record, BLANK, sizeof record);
+    open_lounge(lounge);
+    wulipday_report none = wulipday_command(lounge->house, lounge->rows, lounge->marks, open_day_1,
+                                            0, record);
+    CHECK(none.stop == WULIPDAY_STOP_END && none.read == 0 && none.answers == 0);
+    wulipday_report other = wulipday_command(lounge->house, lounge->rows, lounge->marks, unknown, 3,
+                                             record);
+    CHECK(other.stop == WULIPDAY_STOP_UNKNOWN_BYTE && other.read == 0 && other.answers == 0);
+    wulipday_report short_one = wulipday_command(lounge->house, lounge->rows, lounge->marks,
+                                                 open_day_1, 2, record);
+    CHECK(short_one.stop == WULIPDAY_STOP_TOO_FEW_BYTES && short_one.answers == 0);
+    CHECK(short_one.house.day == 0 && all_blank(record, sizeof record));
+}
+
+/* A book without room stops a roll before its first command. */
+static void full_book(lounge *lounge)
+{
+    uint8_t book[WULIPDAY_ANSWER_BYTES - 1];
+    memset(book, BLANK, sizeof book);
+    open_lounge(lounge);
+    wulipday_report report = wulipday_roll(lounge->house, lounge->rows, lounge->marks, open_day_1,
+                                           3, book, sizeof book);
+    CHECK(report.stop == WULIPDAY_STOP_BOOK_FULL && report.read == 0 && report.answers == 0);
+    CHECK(report.house.day == 0 && all_blank(book, sizeof book));
+}
+
+static void check_live_list(const lounge *lounge)
+{
+    uint8_t list[12];
+    memset(list, BLANK, sizeof list);
+    wulipday_listed refused = wulipday_live_list(lounge->house, lounge->rows, list, 7);
+    CHECK(refused.code == 30 && refused.count == 0 && all_blank(list, sizeof list));
+    wulipday_listed listed = wulipday_live_list(lounge->house, lounge->rows, list, sizeof list);
+    uint64_t one = high_byte_first(list, 4);
+    uint64_t other = high_byte_first(list + 4, 4);
+    CHECK(listed.code == 0 && listed.count == 2);
+    CHECK((one == 1 && other == 2) || (one == 2 && other == 1));
+    CHECK(all_blank(list + 8, 4));
+}
+
+/* Document 01: sixes at 100 and 200 hit, 33,349 and 66,696. */
+static void shared_jackpot(lounge *lounge)
+{
+    uint8_t sale[SALE_BYTES];
+    open_lounge(lounge);
+    CHECK(gives(lounge, open_day_1, 3, (answer){1, 0, 1, 0}));
+    write_sale(sale, 1, 100, 1, 6);
+    CHECK(gives(lounge, sale, SALE_BYTES, (answer){2, 0, 1, 100}));
+    write_sale(sale, 1, 200, 1, 6);
+    CHECK(gives(lounge, sale, SALE_BYTES, (answer){2, 0, 2, 200}));
+    check_live_list(lounge);
+    for (uint8_t number = 1; number <= 20; number++) {
+        const uint8_t ball[] = {4, number};
+        CHECK(gives(lounge, ball, 2, (answer){4, 0, number, number == 20 ? 100045 : 0}));
+    }
+    wulipday_jackpots pools = wulipday_pools(lounge->house);
+    CHECK(pools.six.primary == 100000 && pools.six.secondary == 0);
+    CHECK(pools.six.reimbursement == 0 && pools.six.debt == 100000 + 99985 - 15);
+    CHECK(pools.eight.primary == 1250000 && pools.eight.debt == 1250000);
+    CHECK(gives(lounge, claim_1, 5, (answer){5, 0, 1, 33349}));
+    CHECK(gives(lounge, claim_2, 5, (answer){5, 0, 2, 66696}));
+    CHECK(gives(lounge, claim_2, 5, (answer){5, 19, 0, 0}));
+    wulipday_till_figures till = wulipday_till(lounge->house, lounge->rows);
+    CHECK(till.taken == 300 && till.seeds == 1350000 + 99985 && till.paid == 100045);
+    CHECK(till.retained == 300 - 75 + 15 && !till.negative);
+}
+
+/* 15 of 15 at 100: the house loses, and retained is below zero. */
+static void losing_house(lounge *lounge)
+{
+    uint8_t sale[SALE_BYTES];
+    open_lounge(lounge);
+    CHECK(gives(lounge, open_day_1, 3, (answer){1, 0, 1, 0}));
+    write_sale(sale, 0, 100, 1, 15);
+    CHECK(gives(lounge, sale, SALE_BYTES, (answer){2, 0, 1, 100}));
+    for (uint8_t number = 1; number <= 20; number++) {
+        const uint8_t ball[] = {4, number};
+        CHECK(gives(lounge, ball, 2, (answer){4, 0, number, number == 20 ? 5000000 : 0}));
+    }
+    wulipday_till_figures till = wulipday_till(lounge->house, lounge->rows);
+    CHECK(till.owed == 5000000 && till.retained == 4999900 && till.negative);
+}
+
+int main(void)
+{
+    static lounge lounge;
+    printed_roll_at_once(&lounge);
+    printed_roll_by_command(&lounge);
+    no_command(&lounge);
+    full_book(&lounge);
+    shared_jackpot(&lounge);
+    losing_house(&lounge);
+    if (failures > 0) {
+        fprintf(stderr, "the host in C: %d checks failed\n", failures);
+        return 1;
+    }
+    puts("the host in C: every check holds");
+    return 0;
+}
