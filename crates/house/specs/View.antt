@@ -4,11 +4,12 @@ use Prim.Native.Nat.{ℕ, suc, _+_, _*_, _≤_, _<_}
 use mathlib.Core.Bool.{cond}
 use mathlib.Core.List.{List, [], _∷_, _++_, map}
 use lib.Dec.{eqb}
-use lib.ListN.{take, drop, getD}
+use mathlib.Core.Path.{_≡_}
+use lib.ListN.{length, take, drop, getD}
 use lib.Seq.{sets}
 use Rattle.rules.specs.Lists.{below}
 use Rattle.house.specs.Tickets.{Ticket}
-use Rattle.house.specs.Model.{Model}
+use Rattle.house.specs.Model.{Model, gameLimit}
 use Rattle.house.specs.declared.state.House.{House}
 use Rattle.house.specs.declared.rows.Row.{Row}
 
@@ -71,6 +72,29 @@ ticketsOf words marks = map (ticketIn words marks) (below 200)
 unfoldable pub placeOf : ℕ → List Ticket → ℕ
 placeOf n [] = 0
 placeOf n (t ∷ ts) = cond (eqb (t .number) n) 0 (suc (placeOf n ts))
+
+-- a house whose game is one that can be drawn, or the one after the last
+pub record InGames (h : House) : Type 0 where
+  pub within : h .game ≤ gameLimit + 1
+
+-- one of the 200 rows
+pub record IsRow (i : ℕ) : Type 0 where
+  pub within : i < 200
+
+-- the row of a live ticket
+pub record IsLiveRow (i live : ℕ) : Type 0 where
+  pub within : i < live
+  pub few : live ≤ 200
+
+-- a row with as many marks as a ticket has
+pub record MarkedRow (i : ℕ) (marks : List ℕ) : Type 0 where
+  pub within : i < 200
+  pub count : length marks ≡ 80
+
+-- a row, and the place before it, or its own, that its ticket moves to
+pub record MovesDown (from to : ℕ) : Type 0 where
+  pub down : to ≤ from
+  pub within : from < 200
 
 -- live rows whose ticket numbers rise, so that a number is looked for by halves
 pub record RisingRows (words : List ℕ) (live : ℕ) : Type 0 where

@@ -7,7 +7,7 @@ ghost use lib.Dec.{eqb};
 ghost use lib.ListN.{length, take, set, getD};
 ghost use lib.Seq.{sets};
 ghost use Rattle.house.specs.Commands.{blankTicket};
-ghost use Rattle.house.specs.View.{rowOf, putRow, marksAt, putMarks, ticketFrom, ticketsOf, placeOf, RisingRows, without};
+ghost use Rattle.house.specs.View.{rowOf, putRow, marksAt, putMarks, ticketFrom, ticketsOf, placeOf, IsRow, IsLiveRow, MarkedRow, MovesDown, RisingRows, without};
 
 // A buffer is as long as its type says: learnt by lending it as a slice.
 pub fn known_words(rows: &[u64; 3200])
@@ -46,7 +46,7 @@ pub struct Row {
 
 // The row at a place.
 pub fn read_row(rows: &[u64; 3200], i: usize) -> Row
-    requires { ⌜ i < 200 ⌝ }
+    requires { ⌜ IsRow i ⌝ }
     ensures { λ r. ⌜ r ≡ rowOf (now (rows .entry)) (i * 16) ⌝ }
 {
     let at = i * 16;
@@ -82,7 +82,7 @@ fn put_words(rows: &mut [u64; 3200], at: usize, words: &[u64])
 
 // Another row at a place.
 pub fn write_row(rows: &mut [u64; 3200], i: usize, row: Row)
-    requires { ⌜ i < 200 ⌝ }
+    requires { ⌜ IsRow i ⌝ }
     ensures { λ r. ⌜ now (rows .exit) ≡ putRow (now (rows .entry)) (i * 16) row ⌝ }
 {
     let words = [
@@ -106,7 +106,7 @@ pub fn write_row(rows: &mut [u64; 3200], i: usize, row: Row)
 
 // A ticket's marks, written from the 80 of a sale.
 pub fn write_marks(marks: &mut [u8; 16000], i: usize, from: &[u8])
-    requires { ⌜ (i < 200) × (length (now from) ≡ 80) ⌝ }
+    requires { ⌜ MarkedRow i (now from) ⌝ }
     ensures { λ r. ⌜ now (marks .exit) ≡ putMarks (now (marks .entry)) i (now (from .entry)) ⌝ }
 {
     known_marks(marks);
@@ -174,7 +174,7 @@ pub fn place_of(rows: &[u64; 3200], live: usize, number: u64) -> usize
 
 // Another row in the place of a ticket's, which keeps its marks.
 pub fn change_ticket(rows: &mut [u64; 3200], i: usize, row: Row)
-    requires { ⌜ i < 200 ⌝ }
+    requires { ⌜ IsRow i ⌝ }
     ensures { λ r. ⌜ ((m : List ℕ) → ticketsOf (now (rows .exit)) m ≡ set (ticketsOf (now (rows .entry)) m) i (ticketFrom row (marksAt m i))) ⌝ }
 {
     known_words(rows);
@@ -189,7 +189,7 @@ pub fn append_ticket(
     row: Row,
     from: &[u8],
 )
-    requires { ⌜ (live < 200) × (length (now from) ≡ 80) ⌝ }
+    requires { ⌜ MarkedRow live (now from) ⌝ }
     ensures { λ r. ⌜ take (live + 1) (ticketsOf (now (rows .exit)) (now (marks .exit))) ≡ take live (ticketsOf (now (rows .entry)) (now (marks .entry))) ++ (ticketFrom row (now (from .entry)) ∷ []) ⌝ }
 {
     known_words(rows);
@@ -200,7 +200,7 @@ pub fn append_ticket(
 
 // One ticket with its marks in the place of another.
 pub fn move_ticket(rows: &mut [u64; 3200], marks: &mut [u8; 16000], from: usize, to: usize)
-    requires { ⌜ (to ≤ from) × (from < 200) ⌝ }
+    requires { ⌜ MovesDown from to ⌝ }
     ensures { λ r. ⌜ ticketsOf (now (rows .exit)) (now (marks .exit)) ≡ set (ticketsOf (now (rows .entry)) (now (marks .entry))) to (getD (ticketsOf (now (rows .entry)) (now (marks .entry))) from blankTicket) ⌝ }
 {
     if to == from {
@@ -215,7 +215,7 @@ pub fn move_ticket(rows: &mut [u64; 3200], marks: &mut [u8; 16000], from: usize,
 
 // The live tickets without the one at a place: those after it move down.
 pub fn remove_ticket(rows: &mut [u64; 3200], marks: &mut [u8; 16000], live: usize, i: usize)
-    requires { ⌜ (i < live) × (live ≤ 200) ⌝ }
+    requires { ⌜ IsLiveRow i live ⌝ }
     ensures { λ r. ⌜ take (live - 1) (ticketsOf (now (rows .exit)) (now (marks .exit))) ≡ without i (take live (ticketsOf (now (rows .entry)) (now (marks .entry)))) ⌝ }
 {
     let mut k = i + 1;

@@ -2,9 +2,9 @@
 use rules::jackpot::Jackpot;
 ghost use mathlib.Core.Path.{_≡_};
 ghost use mathlib.Core.List.{List};
-ghost use Prim.Native.Nat.{ℕ, _+_, _≤_};
-ghost use Rattle.house.specs.Model.{fresh, gameLimit, nextGame};
-ghost use Rattle.house.specs.View.{view};
+ghost use Prim.Native.Nat.{ℕ};
+ghost use Rattle.house.specs.Model.{fresh, nextGame};
+ghost use Rattle.house.specs.View.{view, InGames};
 
 // The figures of the till that no ticket or pool tells. Retained is gained less lost.
 #[repr(C)]
@@ -72,7 +72,7 @@ impl House {
     }
     // The first game that is not being drawn: where a new ticket begins, and what Cancel can still take off.
     pub fn first_game(self) -> u64
-        requires { ⌜ self .game ≤ gameLimit + 1 ⌝ }
+        requires { ⌜ InGames self ⌝ }
         ensures { λ r. ⌜ ((words marks : List ℕ) → r ≡ nextGame (view self words marks)) ⌝ }
     {
         let game = self.game;

@@ -1,6 +1,6 @@
 -- "one line an answer (command, code, number, cents), then the stop code, then the nine till figures [..]. Figures are decimal, one space
 -- apart, with a minus sign where negative; the last two lines start with the words shown." Text is bytes: 48 to 57 are the digits.
-use Prim.Native.Nat.{ℕ, zero, suc, _+_, _/_, _%_}
+use Prim.Native.Nat.{ℕ, zero, suc, _+_, _*_, _/_, _%_, _≤_}
 use mathlib.Core.Path.{_≡_}
 use mathlib.Core.Bool.{Bool, cond}
 use mathlib.Core.List.{List, [], _∷_, _++_}
@@ -84,3 +84,12 @@ placed out at text = take at out ++ (text ++ drop (at + length text) out)
 pub record Wrote (before : List ℕ) (at : ℕ) (text after : List ℕ) (next : ℕ) : Type 0 where
   pub bytes : after ≡ placed before at text
   pub ends : next ≡ at + length text
+
+-- a buffer with room for a line from a place on
+pub record Room (out : List ℕ) (at : ℕ) (text : List ℕ) : Type 0 where
+  pub ends : at + length text ≤ length out
+
+-- a book that has so many answers, and a buffer with room for their lines, 40 bytes each at the most
+pub record BookRoom (out book : List ℕ) (answers : ℕ) : Type 0 where
+  pub lines : answers * 40 ≤ length out
+  pub records : answers * 14 ≤ length book

@@ -1,10 +1,10 @@
 // The lines of the answers in a book.
 use crate::lines::put_answer_line;
 ghost use mathlib.Core.Path.{_≡_};
-ghost use Prim.Native.Nat.{_+_, _*_, _≤_};
+ghost use Prim.Native.Nat.{_+_, _≤_};
 ghost use lib.ListN.{length, take, drop};
 ghost use Rattle.roll.specs.Bytes.{numberOf};
-ghost use Rattle.text.specs.Lines.{Wrote, recordLine, bookLines};
+ghost use Rattle.text.specs.Lines.{BookRoom, Wrote, recordLine, bookLines};
 
 fn two_bytes(book: &[u8], at: usize) -> u16
     requires { ⌜ at + 2 ≤ length (now book) ⌝ }
@@ -43,7 +43,7 @@ fn put_record_line(out: &mut [u8], at: usize, book: &[u8], from: usize) -> usize
 
 // The lines of the first answers of a book, from the buffer's start; the next place.
 pub fn put_book(out: &mut [u8], book: &[u8], answers: usize) -> usize
-    requires { ⌜ (answers * 40 ≤ length (now out)) × (answers * 14 ≤ length (now book)) ⌝ }
+    requires { ⌜ BookRoom (now out) (now book) answers ⌝ }
     ensures { λ r. ⌜ Wrote (now (out .entry)) 0 (bookLines answers (now (book .entry))) (now (out .exit)) r ⌝ }
 {
     let mut at = 0;

@@ -13,19 +13,19 @@ use rules::terms::Terms;
 use rules::ways::jackpot_of;
 ghost use mathlib.Core.Path.{_≡_};
 ghost use mathlib.Core.List.{List};
-ghost use Prim.Native.Nat.{ℕ, _+_, _≤_};
+ghost use Prim.Native.Nat.{ℕ, _≤_};
 ghost use lib.ListN.{length};
 ghost use Rattle.rules.specs.Ways.{ways};
 ghost use Rattle.rules.specs.Checks.{Operands, operandCode};
-ghost use Rattle.house.specs.Model.{gameLimit, ticketLimit};
+ghost use Rattle.house.specs.Model.{ticketLimit};
 ghost use Rattle.house.specs.Commands.{sell, codeOf, soldTicket};
 ghost use Rattle.house.specs.Balance.{Reached};
-ghost use Rattle.house.specs.View.{view, ticketFrom};
+ghost use Rattle.house.specs.View.{view, ticketFrom, InGames};
 ghost use Rattle.house.specs.Parts.{Carried};
 
 // The refusal's number on an open day, or 0, where `quoted` is that of the operands alone.
 fn sale_code(house: House, games: u8, quoted: u8) -> u8
-    requires { ⌜ (house .game ≤ gameLimit + 1) × (house .day ≡ 0 → ⊥) ⌝ }
+    requires { ⌜ InGames house × (house .day ≡ 0 → ⊥) ⌝ }
     ensures { λ r. ⌜ ((words marks : List ℕ) (o : Operands) → o .games ≡ games → operandCode o ≡ quoted → r ≡ codeOf (view house words marks) (sell o)) ⌝ }
 {
     if quoted != 0 {
@@ -56,7 +56,7 @@ fn sold_row(
     types: u8,
     from: &[u8],
 ) -> Row
-    requires { ⌜ (house .game ≤ gameLimit + 1) × (house .issued ≤ ticketLimit) × (groups ≤ 8) × (length (now from) ≡ 80) × (count ≡ length (ways groups types)) ⌝ }
+    requires { ⌜ InGames house × (house .issued ≤ ticketLimit) × (groups ≤ 8) × (length (now from) ≡ 80) × (count ≡ length (ways groups types)) ⌝ }
     ensures { λ r. ⌜ ((words marks : List ℕ) → ticketFrom r (now (from .entry)) ≡ soldTicket (view house words marks) (record { kind = kind; games = games; stake = stake; groups = groups; types = types; marks = now (from .entry) })) ⌝ }
 {
     let first = house.first_game();

@@ -55,7 +55,7 @@ till-room c =
     )
 
 put-till-line-requires : tie.Need-put-till-line-requires
-put-till-line-requires c κs = till-room c
+put-till-line-requires c κs = record { ends = till-room c }
 
 array-share-prefix-out : tie.Need-array-share-prefix-out
 array-share-prefix-out c =

@@ -29,7 +29,7 @@ returns c =
     let marks = args .marks .now in
     ap (take (args .live + 1))
     (ap₂ ticketsOf (c .before .before .write-row .ensures) (c .write-marks .ensures)
-    ∙ tickets-put words marks (c .before .before .before .before .before .before .known-words .ensures) (c .before .before .before .before .known-marks .ensures) (args .live) (start .pre .0) (args .row) (args .from .now) (start .pre .1))
+    ∙ tickets-put words marks (c .before .before .before .before .before .before .known-words .ensures) (c .before .before .before .before .known-marks .ensures) (args .live) (start .pre .within) (args .row) (args .from .now) (start .pre .count))
     ∙ take-sold (args .live) (ticketsOf words marks) (ticketFrom (args .row) (args .from .now)) (omega (arith, tickets-length words marks))
 
 pub append-ticket-spec : {M : Type 1} → statement M

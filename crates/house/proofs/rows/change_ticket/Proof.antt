@@ -17,7 +17,7 @@ returns c = λ m.
     let start = c .before .before .before .before in
     let args = start .args in
     ap (λ words. ticketsOf words m) (c .write-row .ensures)
-    ∙ tickets-put-row (args .rows .now) (c .before .before .known-words .ensures) (args .i) (start .pre) (args .row) m
+    ∙ tickets-put-row (args .rows .now) (c .before .before .known-words .ensures) (args .i) (start .pre .within) (args .row) m
 
 pub change-ticket-spec : {M : Type 1} → statement M
 change-ticket-spec = tie.close (tie.spec known-words-requires write-row-requires returns)

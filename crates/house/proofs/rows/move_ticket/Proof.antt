@@ -41,7 +41,7 @@ returns-2 c =
     ap₂ ticketsOf
     (c .before .before .write-row .ensures ∙ ap (putRow words (args .to * 16)) (c .before .before .before .before .read-row .ensures))
     (c .move-marks .ensures)
-    ∙ tickets-move words marks (c .before .before .before .before .before .before .before .before .known-words .ensures) (c .before .before .before .before .before .before .known-marks .ensures) (args .from) (args .to) (start .pre .1) (omega (arith, start .pre))
+    ∙ tickets-move words marks (c .before .before .before .before .before .before .before .before .known-words .ensures) (c .before .before .before .before .before .before .known-marks .ensures) (args .from) (args .to) (start .pre .within) (omega (arith, start .pre))
 
 pub move-ticket-spec : {M : Type 1} → statement M
 move-ticket-spec =

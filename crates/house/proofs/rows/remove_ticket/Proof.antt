@@ -54,7 +54,7 @@ returns c =
     let tickets = ticketsOf (args .rows .now) (args .marks .now) in
     let done : turn .k ≡ args .live = omega (arith, turn .inv, c .loop-test .left) in
     ap (take (args .live - 1)) (turn .inv .2 ∙ ap (λ k. shifted (args .i) k tickets) done)
-    ∙ shifted-all (args .i) tickets (args .live) (start .pre .0) (omega (arith, start .pre, tickets-length (args .rows .now) (args .marks .now)))
+    ∙ shifted-all (args .i) tickets (args .live) (start .pre .within) (omega (arith, start .pre, tickets-length (args .rows .now) (args .marks .now)))
 
 pub remove-ticket-spec : {M : Type 1} → statement M
 remove-ticket-spec =

@@ -56,7 +56,7 @@ returns c =
     let turn = c .before .loop in
     turn .inv .1
     ∙ ap (sets (args .marks .now) (args .i * 80)) (take-all (turn .k) (args .from .now) (omega arith))
-    ∙ put-marks-sets (args .marks .now) (c .before .before .known-marks .ensures) (args .i) (start .pre .0) (args .from .now) (start .pre .1)
+    ∙ put-marks-sets (args .marks .now) (c .before .before .known-marks .ensures) (args .i) (start .pre .within) (args .from .now) (start .pre .count)
 
 pub write-marks-spec : {M : Type 1} → statement M
 write-marks-spec =

@@ -44,7 +44,7 @@ loop-again c =
     let inv = turn .loop .inv in (
       omega (arith, put .before .before .loop-test .taken),
       wrote-as (sym (book-more i book) ∙ ap (λ k. bookLines k book) (sym (add-one i)))
-          (wrote-more (omega (arith, inv .0, inv .1 .ends, inv .2, start .pre .0)) (inv .1) (put .put-record-line .ensures .0)),
+          (wrote-more (omega (arith, inv .0, inv .1 .ends, inv .2, start .pre .lines)) (inv .1) (put .put-record-line .ensures .0)),
       omega (arith, inv .2, put .put-record-line .ensures .1),
       put .put-record-line .kept .0 ∙ inv .3,
     )

@@ -194,7 +194,7 @@ read-row-requires c κs = omega (arith, found-within (found-at (c .before)), fou
 
 first-game-requires : tie.Need-first-game-requires
 unfolding view
-first-game-requires c κs = found-at (c .before .before) .sure .game
+first-game-requires c κs = record { within = found-at (c .before .before) .sure .game }
 
 larger-requires : tie.Need-larger-requires
 larger-requires c κs = search needs

@@ -144,7 +144,7 @@ returns-2 c =
 remove-ticket-requires : tie.Need-remove-ticket-requires
 remove-ticket-requires c κs =
     let found = found-at (c .before .before .before .before .before .before) in
-    (found-within found, found-few found)
+    record { within = found-within found; few = found-few found }
 
 sub-live : tie.Need-sub-live
 sub-live c = omega (arith, found-within (found-at (c .before .before .before .before .before .before .before .before)))

@@ -75,7 +75,7 @@ quote-for-requires c κs = search needs
 
 sale-code-requires : tie.Need-sale-code-requires
 unfolding view
-sale-code-requires c κs = (sure (c .before .before .before) .game, c .before .if1 .left)
+sale-code-requires c κs = (record { within = sure (c .before .before .before) .game }, c .before .if1 .left)
 
 refused-requires-2 : tie.Need-refused-requires-2
 refused-requires-2 c κs = search needs
@@ -94,12 +94,12 @@ sold-row-requires : tie.Need-sold-row-requires
 unfolding view
 sold-row-requires c κs =
     let s = sure (begun c) in
-    (s .game, s .issued, fitting c .fewGroups, fitting c .eighty, ap (λ q. q .ways) (priced c))
+    (record { within = s .game }, s .issued, fitting c .fewGroups, fitting c .eighty, ap (λ q. q .ways) (priced c))
 
 append-ticket-requires : tie.Need-append-ticket-requires
 append-ticket-requires c κs =
     let here = c .before .before .before in
-    (room here, fitting here .eighty)
+    record { within = room here; count = fitting here .eighty }
 
 add-number : tie.Need-add-number
 unfolding view
