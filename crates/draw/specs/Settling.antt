@@ -9,9 +9,10 @@ use Rattle.rules.specs.Lists.{sum, keep}
 use Rattle.rules.specs.Ways.{sizes, hits}
 use Rattle.rules.specs.Settle.{Entry, JackpotResult, majorsOf, prizesOf, fullMatches, settleJackpot}
 use Rattle.rules.specs.Jackpots.{guaranteeOfSix, guaranteeOfEight}
-use Rattle.rules.specs.Passes.{sumsOf, noSums}
+use Rattle.rules.specs.Passes.{foundOf, nothing, sumsOf, noSums}
 use Rattle.rules.specs.declared.terms.Draw.{Draw}
 use Rattle.rules.specs.declared.cut.Cut.{Cut}
+use Rattle.rules.specs.declared.found.Found.{Found}
 use Rattle.rules.specs.declared.sums.Sums.{Sums}
 use Rattle.house.specs.Tickets.{Ticket, termsOf, runsIn, entryOf}
 use Rattle.house.specs.Model.{Model}
@@ -32,7 +33,14 @@ spread game [] (t ∷ ts) = 0 ∷ spread game [] ts
 spread game (x ∷ figures) (t ∷ ts) =
     cond (runsIn game t) (x ∷ spread game figures ts) (0 ∷ spread game (x ∷ figures) ts)
 
--- what one pass over a ticket's ways finds, and nothing for one that does not run
+-- what a ticket's ways win before any cut, and nothing for one that does not run
+unfoldable pub foundIn : ℕ → Draw → Ticket → Found
+foundIn game draw t =
+    cond (runsIn game t)
+    (foundOf (termsOf (t .operands)) (sizes (t .operands .marks)) (hits draw (t .operands .marks)))
+    nothing
+
+-- what a round's pass over a ticket's ways finds, and nothing for one that does not run
 unfoldable pub passOf : ℕ → Draw → Cut → ℕ → Ticket → Sums
 passOf game draw c next t =
     cond (runsIn game t)

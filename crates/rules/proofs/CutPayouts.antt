@@ -11,7 +11,6 @@ use borrow.Author.Tests.{ltb-true, ltb-false, le-leb, lt-leb, leb-true, leb-fals
 use Rattle.rules.specs.Lists.{sum}
 use Rattle.rules.specs.Prize.{prizeLimit, majorFloor, isMajor}
 use Rattle.rules.specs.Cut.{floorCount, cutBase, joins, flooredOf, cutPrize, payout}
-use Rattle.rules.specs.Passes.{uncut, payUnder}
 use Rattle.rules.proofs.KeepLaws.{member-le-sum}
 use Rattle.rules.proofs.CutRounds.{rounds-end}
 use Rattle.rules.proofs.CutStates.{outside-le-base}
@@ -29,11 +28,6 @@ payout-uncut ps p h = rw (le-leb (sum ps) prizeLimit h) (go (isMajor p))
     go : (t : Bool) → cond t p p ≡ p
     go true = refl
     go false = refl
-
--- the code's state of such a game
-pub uncut-pays : (p : ℕ) → payUnder uncut p ≡ p
-unfolding payUnder
-uncut-pays p = refl
 
 -- A is above zero where a prize stands outside F, so that the definition's difference is A: such a prize is at most B, and does not join
 pub share-above-zero : (ps : List ℕ) (p : ℕ) → List·Memᴰ p ps → 0 < p → flooredOf ps p ≡ false →

@@ -85,7 +85,6 @@ round-test c p pos part = go (ltb p (c .below)) refl
 
 -- c is the state after n rounds on the major prizes ps
 pub record StateOf (ps : List ℕ) (n : ℕ) (c : Cut) : Type 0 where
-  pub cut : c .cut ≡ true
   pub floors : (p : ℕ) → List·Memᴰ p ps → rounds n ps p ≡ ltb p (c .below)
   pub count : c .count ≡ floorCount (rounds n ps) ps
   pub base : c .base ≡ cutBase (rounds n ps) ps
@@ -94,7 +93,6 @@ pub record StateOf (ps : List ℕ) (n : ℕ) (c : Cut) : Type 0 where
 abbrev pub nextCut : List ℕ → Cut → Cut
 nextCut ps c =
     record {
-      cut = true;
       below = nextBelow c;
       count = length (keep (λ p. ltb p (nextBelow c)) ps);
       base = sum (keep (λ p. leb (nextBelow c) p) ps);
@@ -104,7 +102,6 @@ pub state-first : (ps : List ℕ) → StateOf ps 0 (firstCut (sum ps))
 unfolding rounds floorCount cutBase
 state-first ps =
     record {
-      cut = refl;
       floors = λ p m. sym (le-ltb p 0 (omega arith));
       count = ap length (sym (keep-none ps));
       base = ap sum (sym (keep-all ps));
@@ -137,7 +134,6 @@ module _ (ps : List ℕ) (n : ℕ) (c : Cut) (s : StateOf ps n c) (positive : (p
   unfolding floorCount cutBase
   state-step =
       record {
-        cut = refl;
         floors = next-floors;
         count = ap length (keep-agree _ _ ps (λ p m. sym (next-floors p m)));
         base = ap sum (keep-agree _ _ ps (λ p m. leb-not-ltb p (nextBelow c) ∙ ap not (sym (next-floors p m))));
@@ -163,7 +159,6 @@ module _ (ps : List ℕ) (n : ℕ) (c : Cut) (s : StateOf ps n c) (positive : (p
     unfolding payUnder payout cutPrize
     state-pays over p m major =
         rw (
-          s .cut,
           le-leb majorFloor p major,
           lt-leb (sum ps) prizeLimit over,
           state-stop p m,

@@ -10,5 +10,6 @@ pub mod CutRounds
 pub mod CutStates
 pub mod CutPayouts
 pub mod SumLaws
+pub mod FoundLaws
 pub mod ShareLaws
 pub mod SettleLaws

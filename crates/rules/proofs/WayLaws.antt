@@ -1,7 +1,7 @@
 -- Laws on the ways of a ticket: lengths and choices as sums; a sum over the masks as the walk that takes or leaves each group computes it,
 -- for any figure and every number of groups; and the figures that such a walk carries.
 use Prim.Native.Nat.{ℕ, zero, suc, _+_, _*_, _-_, _/_, _%_, _^_, _≤_, _<_}
-use mathlib.Core.Path.{_≡_, refl, sym, ap, ap₂, _∙_}
+use mathlib.Core.Path.{_≡_, refl, sym, ap, ap₂, _∙_, subst}
 use mathlib.Core.Bool.{Bool, true, false, cond, _&&_}
 use mathlib.Core.List.{List, [], _∷_, _++_, map, map-append}
 use native.Mathlib.Nat.{pow-suc, mul-one, one-mul, zero-mul, mul-zero, zero-add, add-zero, add-assoc, add-mul, mul-assoc, mul-right-comm, mul-add-mod-self-right, mul-add-div-right, mul-mod-left, mul-div-cancel, zero-lt-suc, pos-of-ne-zero, lt-of-lt-of-le, le-trans, mul-le-mul-left, sub-le}
@@ -235,6 +235,9 @@ carried-all {m = m} {xs = xs} none c = c .added ∙ ap (λ k. taken m (drop k xs
 
 pub mask-lt : {left m : ℕ} → Place left m → m < 2 ^ 8
 mask-lt {left} p = lt-of-lt-of-le (p .chosen) (pow-mono {j = 8} (sub-le 8 left))
+
+pub place-end : {left m : ℕ} → left ≡ 0 → Place left m → Place 0 m
+place-end {m = m} none p = subst (λ k. Place k m) none p
 
 module _ {left : ℕ} (some : left ≡ 0 → ⊥) where
   next : suc (left - 1) ≡ left

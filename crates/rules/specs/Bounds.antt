@@ -6,7 +6,9 @@ use mathlib.Core.List.{List}
 use lib.ListN.{length, drop, getD}
 use Rattle.rules.specs.Ways.{taken}
 use Rattle.rules.specs.Price.{chargeLimit}
+use Rattle.rules.specs.Prize.{prizeLimit, majorFloor}
 use Rattle.rules.specs.declared.terms.Terms.{Terms}
+use Rattle.rules.specs.declared.cut.Cut.{Cut}
 use Rattle.rules.specs.declared.jackpot.Jackpot.{Jackpot}
 
 -- what the operand checks give of a ticket's terms
@@ -23,6 +25,20 @@ pub record Place (left mask : ℕ) : Type 0 where
 pub record Carried (left mask total : ℕ) (figures : List ℕ) : Type 0 where
   pub added : total ≡ taken mask (drop left figures)
   pub small : total ≤ 255 * (8 - left)
+
+-- a prize whose product with all that there is to share fits
+pub record Payable (prize : ℕ) : Type 0 where
+  pub small : prize < 2 ^ 40
+
+-- a state of the cut whose next bound fits
+pub record Cuttable (c : Cut) : Type 0 where
+  pub small : c .base < 2 ^ 63
+
+-- cents to divide by what is left to share, which is at least one floor
+pub record Divided (base part : ℕ) : Type 0 where
+  pub small : base < 2 ^ 63
+  pub least : majorFloor ≤ part
+  pub most : part ≤ prizeLimit
 
 -- a jackpot whose pools and debt can grow by one game's paid stakes and a seed
 pub record Roomy (j : Jackpot) : Type 0 where

@@ -1,36 +1,22 @@
 // The cut of a game's major prizes (rules 12.3 to 12.5), without a list of them.
 ghost use mathlib.Core.Path.{_≡_};
-ghost use Prim.Native.Nat.{_+_, _*_, _-_, _/_, _%_, _≤_, _<_, _^_, max};
-ghost use Rattle.rules.specs.Passes.{uncut, firstCut, payUnder, nextBelow};
+ghost use Prim.Native.Nat.{_+_, _*_, _-_, _/_, _%_, max};
+ghost use Rattle.rules.specs.Bounds.{Payable, Cuttable, Divided};
+ghost use Rattle.rules.specs.Passes.{firstCut, payUnder, nextBelow};
 
-// A round of the cut: the floored prizes are those below `below`, `count` of them, and the others make `base` cents. Nothing is cut where
-// `cut` is false.
+// A round of the cut: the floored prizes are those below `below`, `count` of them, and the others make `base` cents.
 pub struct Cut {
-    pub cut: bool,
     pub below: u64,
     pub count: u64,
     pub base: u64,
 }
 
 impl Cut {
-    // A game whose major prizes are paid in full.
-    pub fn none() -> Cut
-        ensures { λ r. ⌜ r ≡ uncut ⌝ }
-    {
-        Cut {
-            cut: false,
-            below: 0,
-            count: 0,
-            base: 0,
-        }
-    }
-
     // The state before the first round, where the major prizes make `base` cents.
     pub fn first(base: u64) -> Cut
         ensures { λ r. ⌜ r ≡ firstCut base ⌝ }
     {
         Cut {
-            cut: true,
             below: 0,
             count: 0,
             base,
@@ -51,15 +37,11 @@ impl Cut {
 
     // What a prize pays under this state.
     pub fn payout(self, prize: u64) -> u64
-        requires { ⌜ prize < 2 ^ 40 ⌝ }
+        requires { ⌜ Payable prize ⌝ }
         ensures { λ r. ⌜ r ≡ payUnder self prize ⌝ }
     {
-        let cut = self.cut;
         let below = self.below;
         let base = self.base;
-        if !cut {
-            return prize;
-        }
         if prize < 20_000 {
             return prize;
         }
@@ -75,7 +57,7 @@ impl Cut {
 
     // The bound of the floored prizes after one more round.
     pub fn next_below(self) -> u64
-        requires { ⌜ self .base < 2 ^ 63 ⌝ }
+        requires { ⌜ Cuttable self ⌝ }
         ensures { λ r. ⌜ r ≡ nextBelow self ⌝ }
     {
         let below = self.below;
@@ -90,7 +72,7 @@ impl Cut {
 
 // 20,000 × base / part, rounded up, with no product that could overflow.
 fn rounded_up(base: u64, part: u64) -> u64
-    requires { ⌜ (base < 2 ^ 63) × (20000 ≤ part) × (part ≤ 5000000) ⌝ }
+    requires { ⌜ Divided base part ⌝ }
     ensures { λ r. ⌜ r ≡ 20000 * (base / part) + (20000 * (base % part) + (part - 1)) / part ⌝ }
 {
     20_000 * (base / part) + (20_000 * (base % part) + (part - 1)) / part

@@ -1,24 +1,20 @@
-// What one pass over a ticket's ways finds.
+// One round of the cut over a ticket's ways.
 use crate::cut::Cut;
 use crate::prize;
 use crate::terms::Terms;
 use crate::ways;
 ghost use mathlib.Core.Path.{_≡_};
-ghost use mathlib.Core.Bool.{cond};
-ghost use Prim.Native.Nat.{_^_, _<_};
-ghost use lib.Dec.{eqb};
 ghost use lib.Count.{ones};
 ghost use Rattle.rules.specs.Ways.{nominated};
 ghost use Rattle.rules.specs.Bounds.{Sound, Place, Carried};
 ghost use Rattle.rules.specs.Passes.{noSums, plus, Addable, waySums, waySumsAt, orNone, sumsFrom, sumsOf};
 
-// Sums over a ticket's ways: what they pay under a state of the cut; of their major prizes how many the next round floors, and the cents
-// of the others; and how many ways match all their numbers.
+// Sums over a ticket's ways: what they pay under a state of the cut; and of their major prizes how many the next round floors, and the
+// cents of the others.
 pub struct Sums {
     pub paid: u64,
     pub floored: u64,
     pub rest: u64,
-    pub full: u64,
 }
 
 impl Sums {
@@ -30,7 +26,6 @@ impl Sums {
             paid: 0,
             floored: 0,
             rest: 0,
-            full: 0,
         }
     }
 
@@ -43,16 +38,8 @@ impl Sums {
             paid: self.paid + other.paid,
             floored: self.floored + other.floored,
             rest: self.rest + other.rest,
-            full: self.full + other.full,
         }
     }
-}
-
-// 1 for a way that matches all the numbers it selects, and 0 for another.
-fn full_match(size: u32, hit: u32) -> u64
-    ensures { λ r. ⌜ r ≡ cond (eqb hit size) 1 0 ⌝ }
-{
-    if hit == size { 1 } else { 0 }
 }
 
 // The sums of one way, which selects `size` numbers and matches `hit` of them.
@@ -64,13 +51,11 @@ fn way_sums(terms: Terms, cut: Cut, next: u64, size: u32, hit: u32) -> Sums
     let stake = terms.stake;
     let cents = prize::prize_of(kind, stake, size, hit);
     let paid = cut.payout(cents);
-    let full = full_match(size, hit);
     if cents < 20_000 {
         return Sums {
             paid,
             floored: 0,
             rest: 0,
-            full,
         };
     }
     if cents < next {
@@ -78,20 +63,18 @@ fn way_sums(terms: Terms, cut: Cut, next: u64, size: u32, hit: u32) -> Sums
             paid,
             floored: 1,
             rest: 0,
-            full,
         };
     }
     Sums {
         paid,
         floored: 0,
         rest: cents,
-        full,
     }
 }
 
 // The sums of a mask of groups, which is a way or none. It selects `size` numbers and matches `hit` of them.
 fn mask_sums(mask: u32, size: u32, hit: u32, terms: Terms, cut: Cut, next: u64) -> Sums
-    requires { ⌜ (mask < 2 ^ 8) × Sound terms ⌝ }
+    requires { ⌜ Place 0 mask × Sound terms ⌝ }
     ensures { λ r. ⌜ r ≡ orNone (nominated (terms .types) (ones mask)) (waySums terms cut next size hit) ⌝ }
 {
     let types = terms.types;

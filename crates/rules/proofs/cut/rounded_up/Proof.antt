@@ -18,7 +18,7 @@ div-result : tie.Need-div-result
 div-result c = search needs
 
 mul-result : tie.Need-mul-result
-mul-result c = omega (arith, whole-le (c .args .base) (c .args .part) (c .pre .1))
+mul-result c = omega (arith, whole-le (c .args .base) (c .args .part) (c .pre .least))
 
 rem-result : tie.Need-rem-result
 rem-result c = search needs
@@ -39,7 +39,7 @@ add-result-2 : tie.Need-add-result-2
 add-result-2 c =
     omega (
       arith,
-      whole-le (c .args .base) (c .args .part) (c .pre .1),
+      whole-le (c .args .base) (c .args .part) (c .pre .least),
       broken-lt (c .args .base) (c .args .part) (omega arith),
     )
 

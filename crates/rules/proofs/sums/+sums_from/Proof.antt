@@ -10,7 +10,7 @@ use borrow.Author.Needs.{needs}
 use borrow.Fn.Kinds.{In}
 use borrow.Fn.PlainCycle.{Measures, is, falls, and}
 use Rattle.rules.specs.Passes.{waySumsAt}
-use Rattle.rules.proofs.WayLaws.{mask-lt, place-with, place-without, carried-with, carried-without, carried-all}
+use Rattle.rules.proofs.WayLaws.{mask-lt, place-end, place-with, place-without, carried-with, carried-without, carried-all}
 use Rattle.rules.proofs.SumLaws.{ways-small, sumsFrom-none, sumsFrom-both, sumsFrom-addable}
 use Rattle.rules.proofs.sums.sums_from.Reads as sums-from
 use Rattle.rules.proofs.sums.sums_from.Kinds as kinds
@@ -49,7 +49,7 @@ module _ (t : ℕ) where
       omega arith
 
   mask-sums-requires : lts.Need-mask-sums-requires called given sums-from.Post
-  mask-sums-requires c κs = (mask-lt (c .before .pre .1 .0), c .before .pre .1 .3)
+  mask-sums-requires c κs = (place-end (c .if1 .taken) (c .before .pre .1 .0), c .before .pre .1 .3)
 
   returns : lts.Need-returns called given sums-from.Post
   returns c =

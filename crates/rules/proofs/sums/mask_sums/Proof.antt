@@ -3,11 +3,12 @@ use mathlib.Core.Path.{sym, _∙_}
 use lib.Count.{ones-le}
 use borrow.Author.Needs.{needs}
 use borrow.Author.Tests.{not-true, not-false}
+use Rattle.rules.proofs.WayLaws.{mask-lt}
 use Rattle.rules.proofs.sums.mask_sums.Statement.{statement}
 use Rattle.rules.proofs.sums.mask_sums.Tie as tie
 
 nominates-requires : tie.Need-nominates-requires
-nominates-requires c κs = record { few = ones-le 8 _ (c .pre .0) }
+nominates-requires c κs = record { few = ones-le 8 _ (mask-lt (c .pre .0)) }
 
 none-requires : tie.Need-none-requires
 none-requires c κs = search needs

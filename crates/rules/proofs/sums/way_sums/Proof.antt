@@ -12,23 +12,21 @@ prize-of-requires c κs = search needs
 payout-requires : tie.Need-payout-requires
 payout-requires c κs =
     let a = c .before .args in
-    rw (c .prize-of .ensures) (prize-bound (a .terms .kind) (a .terms .stake) (a .size) (a .hit) (c .before .pre .stake))
-
-full-match-requires : tie.Need-full-match-requires
-full-match-requires c κs = search needs
+    record {
+      small = rw (c .prize-of .ensures) (prize-bound (a .terms .kind) (a .terms .stake) (a .size) (a .hit) (c .before .pre .stake));
+    }
 
 returns : tie.Need-returns
 returns c =
-    let past = c .before .before in
-    simp (← past .before .prize-of .ensures, past .payout .ensures, c .before .full-match .ensures, lt-leb _ _ (c .if1 .taken))
+    let past = c .before in
+    simp (← past .before .prize-of .ensures, past .payout .ensures, lt-leb _ _ (c .if1 .taken))
 
 returns-2 : tie.Need-returns-2
 returns-2 c =
-    let past = c .before .before .before in
+    let past = c .before .before in
     simp (
       ← past .before .prize-of .ensures,
       past .payout .ensures,
-      c .before .before .full-match .ensures,
       le-leb _ _ (c .before .if1 .left),
       lt-ltb _ _ (c .if2 .taken),
       lt-leb _ _ (c .if2 .taken),
@@ -36,17 +34,14 @@ returns-2 c =
 
 returns-3 : tie.Need-returns-3
 returns-3 c =
-    let past = c .before .before .before in
+    let past = c .before .before in
     simp (
       ← past .before .prize-of .ensures,
       past .payout .ensures,
-      c .before .before .full-match .ensures,
       le-leb _ _ (c .before .if1 .left),
       le-ltb _ _ (c .if2 .left),
       le-leb _ _ (c .if2 .left),
     )
 
 pub way-sums-spec : {M : Type 1} → statement M
-way-sums-spec =
-    tie.close
-    (tie.spec prize-of-requires payout-requires full-match-requires returns returns-2 returns-3)
+way-sums-spec = tie.close (tie.spec prize-of-requires payout-requires returns returns-2 returns-3)

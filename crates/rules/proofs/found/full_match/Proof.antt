@@ -1,7 +1,7 @@
--- `rules::sums::full_match` meets its contract: each return is the definition at its test.
+-- `rules::found::full_match` meets its contract: each return is the definition at its test.
 use borrow.Author.Tests.{eq-eqb, ne-eqb}
-use Rattle.rules.proofs.sums.full_match.Statement.{statement}
-use Rattle.rules.proofs.sums.full_match.Tie as tie
+use Rattle.rules.proofs.found.full_match.Statement.{statement}
+use Rattle.rules.proofs.found.full_match.Tie as tie
 
 returns : tie.Need-returns
 returns c = simp (eq-eqb _ _ (c .if1 .taken))

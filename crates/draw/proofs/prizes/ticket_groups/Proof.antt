@@ -1,15 +1,14 @@
--- `house::prizes::marked_sums` meets its contract: the part of the marks that it lends is the ticket's own.
+-- `draw::prizes::ticket_groups` meets its contract: the part of the marks that it lends is the ticket's own.
 use Prim.Native.Nat.{ℕ, _+_, _-_, _*_}
-use mathlib.Core.Path.{_≡_, ap, ap₂, _∙_}
+use mathlib.Core.Path.{_≡_, ap, _∙_}
 use mathlib.Core.List.{List}
 use lib.ListN.{take, drop}
 use native.Mathlib.Omega.{arith}
 use borrow.Author.Needs.{needs}
 use Rattle.rules.specs.Ways.{sizes, hits}
-use Rattle.rules.specs.Passes.{sumsOf}
 use Rattle.house.specs.View.{marksAt}
-use Rattle.draw.proofs.prizes.marked_sums.Statement.{statement}
-use Rattle.draw.proofs.prizes.marked_sums.Tie as tie
+use Rattle.draw.proofs.prizes.ticket_groups.Statement.{statement}
+use Rattle.draw.proofs.prizes.ticket_groups.Tie as tie
 
 -- the part that is lent has 80 marks
 own-part : (marks : List ℕ) (i : ℕ) → take (i * 80 + 80 - i * 80) (drop (i * 80) marks) ≡ marksAt marks i
@@ -39,21 +38,18 @@ group-sizes-requires c κs = search needs
 group-hits-requires : tie.Need-group-hits-requires
 group-hits-requires c κs = search needs
 
-ticket-sums-requires : tie.Need-ticket-sums-requires
-ticket-sums-requires c κs = search needs
-
 returns : tie.Need-returns
 returns c =
-    let args = c .before .before .before .before .before .args in
+    let args = c .before .before .before .before .args in
     let own : take (args .i * 80 + 80 - args .i * 80) (drop (args .i * 80) (args .marks .now)) ≡ marksAt (args .marks .now) (args .i) =
     own-part (args .marks .now) (args .i) in
-    c .ticket-sums .ensures
-    ∙ ap₂ (λ s h. sumsOf (args .terms) s h (args .cut) (args .next))
-    (c .before .before .group-sizes .ensures ∙ ap sizes own)
-    (c .before .group-hits .ensures ∙ ap (hits (args .draw)) own)
+    λ i. record {
+      sizes = (c .before .group-sizes .ensures ∙ ap sizes own) i;
+      hits = (c .group-hits .ensures ∙ ap (hits (args .draw)) own) i;
+    }
 
-pub marked-sums-spec : {M : Type 1} → statement M
-marked-sums-spec =
+pub ticket-groups-spec : {M : Type 1} → statement M
+ticket-groups-spec =
     tie.close
     (tie.spec
     mul-from
@@ -63,5 +59,4 @@ marked-sums-spec =
     part-own-end
     group-sizes-requires
     group-hits-requires
-    ticket-sums-requires
     returns)

@@ -1,0 +1,37 @@
+-- `rules::found::find_mask` meets its contract: a mask whose count of groups is not nominated is no way, and adds nothing.
+use mathlib.Core.Path.{_≡_, sym, _∙_, subst}
+use mathlib.Core.Bool.{true, false}
+use lib.Count.{ones, ones-le}
+use borrow.Author.Tests.{not-true, not-false}
+use Rattle.rules.specs.Ways.{nominated}
+use Rattle.rules.specs.Passes.{wayFound, orNothing, Room}
+use Rattle.rules.proofs.WayLaws.{mask-lt}
+use Rattle.rules.proofs.FoundLaws.{nothing-joined}
+use Rattle.rules.proofs.found.find_mask.Statement.{statement}
+use Rattle.rules.proofs.found.find_mask.Tie as tie
+
+nominates-requires : tie.Need-nominates-requires
+nominates-requires c κs = record { few = ones-le 8 _ (mask-lt (c .pre .0)) }
+
+returns : tie.Need-returns
+returns c =
+    let args = c .before .before .args in
+    let none : nominated (args .types) (ones (args .mask)) ≡ false =
+    sym (c .before .nominates .ensures) ∙ not-true _ (c .if1 .taken) in
+    rw none (nothing-joined (args .found .now))
+
+-- the mask is a way
+a-way : (c : tie.Else1) → nominated (c .before .before .args .types) (ones (c .before .before .args .mask)) ≡ true
+a-way c = sym (c .before .nominates .ensures) ∙ not-false _ (c .if1 .left)
+
+find-way-requires : tie.Need-find-way-requires
+find-way-requires c κs =
+    let start = c .before .before .before in
+    let args = start .args in
+    subst (λ t. Room (orNothing t (wayFound (args .kind) (args .stake) (args .size) (args .hit))) (args .found .now)) (a-way (c .before)) (start .pre .1)
+
+returns-2 : tie.Need-returns-2
+returns-2 c = rw (a-way (c .before .before)) (c .find-way .ensures)
+
+pub find-mask-spec : {M : Type 1} → statement M
+find-mask-spec = tie.close (tie.spec nominates-requires returns find-way-requires returns-2)
