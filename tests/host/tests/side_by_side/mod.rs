@@ -228,7 +228,7 @@ fn whole_command(roll: &[u8]) -> Option<usize> {
     (size <= roll.len()).then_some(size)
 }
 
-fn figures(till: &host::Till) -> [Cents; 9] {
+pub fn figures(till: &host::Till) -> [Cents; 9] {
     let retained = Cents::from(till.retained);
     let unsigned = [
         till.taken,
@@ -246,10 +246,10 @@ fn figures(till: &host::Till) -> [Cents; 9] {
     figures
 }
 
-fn jackpot(pools: &host::Jackpot) -> [Cents; 4] {
+pub fn jackpot(pools: &host::Jackpot) -> [Cents; 4] {
     [pools.primary, pools.secondary, pools.reimbursement, pools.debt].map(Cents::from)
 }
 
-fn reference_jackpot(pools: &reference::Jackpot) -> [Cents; 4] {
+pub fn reference_jackpot(pools: &reference::Jackpot) -> [Cents; 4] {
     [pools.primary, pools.secondary, pools.reimbursement, pools.debt]
 }
