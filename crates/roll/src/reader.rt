@@ -66,8 +66,9 @@ impl Report {
         ensures { λ r. ⌜ now r ≡ drop (self .read) (now (roll .entry)) ⌝ }
     {
         let read = self.read;
-        if roll.len() <= read {
-            return &roll[0..0];
+        let end = roll.len();
+        if end <= read {
+            return &roll[end..end];
         }
         &roll[read..]
     }

@@ -1,8 +1,8 @@
 -- `roll::reader::Report::unread` meets its contract: the tail is all of the roll past what was read, or none of it.
 use Prim.Native.Nat.{_-_}
 use native.Mathlib.Omega.{arith}
-use mathlib.Core.Path.{sym}
-use lib.ListN.{length, drop, drop-of-length-le, length-drop}
+use mathlib.Core.Path.{_≡_, sym, ap, _∙_}
+use lib.ListN.{length, take, drop, drop-of-length-le, length-drop}
 use lib.Seq.{take-all}
 use borrow.Author.Needs.{needs}
 use Rattle.roll.proofs.reader.Report.unread.Statement.{statement}
@@ -18,7 +18,10 @@ part-result-end : tie.Need-part-result-end
 part-result-end c = search needs
 
 returns : tie.Need-returns
-returns c = sym (drop-of-length-le (c .before .before .args .roll .now) (c .before .if1 .taken))
+returns c =
+    let l = c .before .before .args .roll .now in
+    let none : length l - length l ≡ 0 = omega arith in
+    ap (λ k. take k (drop (length l) l)) none ∙ sym (drop-of-length-le l (c .before .if1 .taken))
 
 sub-result-2 : tie.Need-sub-result-2
 sub-result-2 c = search needs
