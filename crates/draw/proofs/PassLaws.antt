@@ -15,14 +15,12 @@ use Rattle.rules.specs.Ways.{sizes, hits}
 use Rattle.rules.specs.Prize.{prizeLimit, majorFloor, isMajor}
 use Rattle.rules.specs.Cut.{payout}
 use Rattle.rules.specs.Settle.{Entry, wayPrizes, fullMatches, majorsOf, prizesOf}
-use Rattle.rules.specs.Passes.{foundOf, nothing, firstCut, payUnder, nextBelow, sumsOf, noSums, waySumsAt}
+use Rattle.rules.specs.Passes.{foundOf, nothing, firstCut, payUnder, nextBelow, sumsOf, noSums}
 use Rattle.rules.specs.declared.terms.Draw.{Draw}
-use Rattle.rules.specs.declared.terms.Terms.{Terms}
 use Rattle.rules.specs.declared.found.Found.{Found}
 use Rattle.rules.specs.declared.cut.Cut.{Cut}
 use Rattle.rules.specs.declared.sums.Sums.{Sums}
-use Rattle.rules.proofs.WayLaws.{sumFrom-small}
-use Rattle.rules.proofs.SumLaws.{ways-small, sumsFrom-ticket}
+use Rattle.rules.proofs.SumLaws.{sums-small}
 use Rattle.rules.proofs.FoundLaws.{found-small}
 use Rattle.rules.proofs.CutPayouts.{payout-minor, payout-uncut}
 use Rattle.rules.proofs.CutStates.{StateOf, nextCut, state-first, state-step, state-pays, next-count-grows, next-count-le}
@@ -188,7 +186,6 @@ module _ (game : ℕ) (draw : Draw) where
       go : (b : Bool) → cond b (foundFor t) nothing .majors ≤ 2 ^ 48
       go true =
           found-small (termsOf (t .operands)) (sizes (t .operands .marks)) (hits draw (t .operands .marks)) (terms-sound (t .operands) checked)
-          .majors
       go false = omega arith
 
   -- where the major prizes do not pass the limit, what is won is what the rule pays
@@ -282,34 +279,12 @@ module _ (game : ℕ) (draw : Draw) where
     unfolding passOf
     pass-small t checked = go (runsIn game t)
       where
-        terms : Terms
-        terms = termsOf (t .operands)
-
-        own : List ℕ
-        own = t .operands .marks
-
-        way : ℕ → Sums
-        way = waySumsAt terms (sizes own) (hits draw own) c next
-
-        few : terms .groups ≤ 8
-        few = terms-sound (t .operands) checked .groups
-
-        floored-small : sumsOf terms (sizes own) (hits draw own) c next .floored ≤ 2 ^ 48
-        floored-small =
-            subst (λ (s : Sums). s .floored ≤ 2 ^ 48) (sumsFrom-ticket terms (sizes own) (hits draw own) c next)
-            (sumFrom-small (terms .types) (λ k. way k .floored) (2 ^ 40)
-            (λ k. ways-small terms (sizes own) (hits draw own) c next (terms-sound (t .operands) checked) k .floored) few 0)
-
-        rest-small : sumsOf terms (sizes own) (hits draw own) c next .rest ≤ 2 ^ 48
-        rest-small =
-            subst (λ (s : Sums). s .rest ≤ 2 ^ 48) (sumsFrom-ticket terms (sizes own) (hits draw own) c next)
-            (sumFrom-small (terms .types) (λ k. way k .rest) (2 ^ 40)
-            (λ k. ways-small terms (sizes own) (hits draw own) c next (terms-sound (t .operands) checked) k .rest) few 0)
-
         go : (b : Bool)
             → (cond b (sumsFor c next t) noSums .floored ≤ 2 ^ 48)
             × (cond b (sumsFor c next t) noSums .rest ≤ 2 ^ 48)
-        go true = (floored-small, rest-small)
+        go true =
+            sums-small (termsOf (t .operands)) (sizes (t .operands .marks)) (hits draw (t .operands .marks)) c next
+            (terms-sound (t .operands) checked)
         go false = (omega arith, omega arith)
 
     -- what is paid is what the rule pays, where each major prize is paid so

@@ -1,38 +1,34 @@
--- Laws on the pass of a round over a ticket's ways: no way adds more than 2^40 to any figure, so that no sum over the ways passes 64 bits;
--- the walk that takes or leaves each group sums all three figures; and over all groups these are the sums that the rule names.
-use Prim.Native.Nat.{ℕ, _+_, _*_, _-_, _/_, _≤_, _<_, _^_}
-use mathlib.Core.Path.{_≡_, refl, sym, ap, _∙_}
+-- Laws on the pass of a round over a ticket's ways: over all groups its figures are the sums that the rule names, and small, since what is
+-- paid of a prize is no more than the prize or than all that there is to share.
+use Prim.Native.Nat.{ℕ, _*_, _/_, _≤_, _<_, _^_}
+use mathlib.Core.Path.{_≡_, refl, sym, ap, _∙_, subst}
 use mathlib.Core.Bool.{Bool, true, false, cond, _&&_}
 use mathlib.Core.List.{List, map-map}
-use native.Mathlib.Nat.{div-le-of-le-mul, mul-le-mul-right, lt-of-le-of-lt, le-of-lt, le-trans}
+use native.Mathlib.Nat.{div-le-of-le-mul, mul-le-mul-right, le-of-lt, le-trans}
 use native.Mathlib.Omega.{arith}
-use lib.Dec.{ltb, leb, lit<, lit≤}
-use lib.Count.{ones}
+use lib.Dec.{ltb, leb, lit≤}
+use lib.ListN.{getD, replicate}
 use borrow.Author.Tests.{leb-true}
 use Rattle.rules.specs.Lists.{sum}
+use Rattle.rules.specs.Price.{chargeLimit}
 use Rattle.rules.specs.Prize.{majorFloor, isMajor, prize}
-use Rattle.rules.specs.Ways.{nominated, ways, taken}
+use Rattle.rules.specs.Ways.{ways, taken}
 use Rattle.rules.specs.Settle.{prizesBy}
 use Rattle.rules.specs.Bounds.{Sound}
-use Rattle.rules.specs.Passes.{shareable, payUnder, sumsOf, waySumsAt, orNone, plus, Addable, sumsFrom}
+use Rattle.rules.specs.Passes.{Figures, figures, figuresFrom, Joined, shareable, payUnder, sumsOf, wordsOf, cutIn, nextIn, waySums}
+use Rattle.rules.specs.declared.terms.Kind.{Kind}
 use Rattle.rules.specs.declared.terms.Terms.{Terms}
 use Rattle.rules.specs.declared.cut.Cut.{Cut}
 use Rattle.rules.specs.declared.sums.Sums.{Sums}
 use Rattle.rules.proofs.PrizeLaws.{prize-bound}
-use Rattle.rules.proofs.WayLaws.{length-keep-map, sum-keep-map, sumFrom-ways, sumFrom-small, sumFrom-none, sumFrom-both, tally-le}
+use Rattle.rules.proofs.WayLaws.{length-keep-map, sum-keep-map, sumFrom-ways, tally-le}
+use Rattle.rules.proofs.FigureLaws.{same-figures, or-zero-le, AtMost, figuresFrom-small, joined-start}
 
--- sums are equal where their figures are
-made : ℕ → ℕ → ℕ → Sums
-made a b c = record { paid = a; floored = b; rest = c }
+abbrev placed : Sums → Figures
+placed s = figures (s .paid) (s .floored) (s .rest)
 
-same-made : {a b c d e f : ℕ} → a ≡ d → b ≡ e → c ≡ f → made a b c ≡ made d e f
-same-made p q r = cc
-
-same-sums : (a b : Sums) → a .paid ≡ b .paid → a .floored ≡ b .floored → a .rest ≡ b .rest → a ≡ b
-unfolding made
-same-sums a b p q r = same-made p q r
-
--- ---- how much a way can add
+abbrev named : Figures → Sums
+named f = record { paid = f .first; floored = f .second; rest = f .third }
 
 -- what a prize outside F is paid is no more than A
 part-le : (p a base : ℕ) → p ≤ base → p * a / base ≤ a
@@ -50,77 +46,50 @@ payUnder-bound c p h = go (isMajor p) (ltb p (c .below)) (leb p (c .base)) refl
     go true false false e = omega arith
 
 -- no figure of a way is more than 2^40
-pub record Small (s : Sums) : Type 0 where
-  pub paid : s .paid ≤ 2 ^ 40
-  pub floored : s .floored ≤ 2 ^ 40
-  pub rest : s .rest ≤ 2 ^ 40
+prize-small : (words : List ℕ) (p : ℕ) → p < 2 ^ 40
+    → AtMost (2 ^ 40)
+    (figures (payUnder (cutIn words) p) (cond (isMajor p && ltb p (nextIn words)) 1 0) (cond (isMajor p && leb (nextIn words) p) p 0))
+prize-small words p bound =
+    record {
+      first = le-of-lt (payUnder-bound (cutIn words) p bound);
+      second = le-trans (tally-le (isMajor p && ltb p (nextIn words))) (lit≤ tt);
+      third = or-zero-le (isMajor p && leb (nextIn words) p) p (2 ^ 40) (le-of-lt bound);
+    }
 
-pub or-zero-le : (t : Bool) (n b : ℕ) → n ≤ b → cond t n 0 ≤ b
-or-zero-le true n b h = h
-or-zero-le false n b h = omega arith
-
--- ---- the three figures together
-
-module _ (types : ℕ) (w : ℕ → Sums) where
-  -- where no group is left, the sums are the mask's own, if it is a way
-  pub sumsFrom-none : (m : ℕ) {left : ℕ} → left ≡ 0 → sumsFrom types w left m ≡ orNone (nominated types (ones m)) (w m)
-  sumsFrom-none m none =
-      same-sums (sumsFrom types w _ m) (record { paid = _; floored = _; rest = _ })
-      (sumFrom-none types (λ k. w k .paid) m none)
-      (sumFrom-none types (λ k. w k .floored) m none)
-      (sumFrom-none types (λ k. w k .rest) m none)
-      ∙ go (nominated types (ones m)) (w m)
-    where
-      go : (t : Bool) (s : Sums)
-          → _≡_ {A = Sums} (record { paid = cond t (s .paid) 0; floored = cond t (s .floored) 0; rest = cond t (s .rest) 0 })
-          (orNone t s)
-      go true s = refl
-      go false s = refl
-
-  -- the sums over the masks that take the next group and those over the masks that leave it
-  pub sumsFrom-both : (m : ℕ) {left : ℕ} → (left ≡ 0 → ⊥) → {a b : Sums} → a ≡ sumsFrom types w (left - 1) (m * 2 + 1)
-      → b ≡ sumsFrom types w (left - 1) (m * 2) → plus a b ≡ sumsFrom types w left m
-  sumsFrom-both m {left} some {a} {b} d e =
-      same-sums (plus a b) (sumsFrom types w left m)
-      (sumFrom-both some types (λ k. w k .paid) m (ap (λ s. s .paid) d) (ap (λ s. s .paid) e))
-      (sumFrom-both some types (λ k. w k .floored) m (ap (λ s. s .floored) d) (ap (λ s. s .floored) e))
-      (sumFrom-both some types (λ k. w k .rest) m (ap (λ s. s .rest) d) (ap (λ s. s .rest) e))
-
-  pub sumsFrom-addable : ((k : ℕ) → Small (w k)) → {left : ℕ} → left ≤ 8 → (m : ℕ) → Addable (sumsFrom types w left m)
-  sumsFrom-addable h few m =
-      record {
-        paid = lt-of-le-of-lt (sumFrom-small types (λ k. w k .paid) (2 ^ 40) (λ k. h k .paid) few m) (lit< tt);
-        floored = lt-of-le-of-lt (sumFrom-small types (λ k. w k .floored) (2 ^ 40) (λ k. h k .floored) few m) (lit< tt);
-        rest = lt-of-le-of-lt (sumFrom-small types (λ k. w k .rest) (2 ^ 40) (λ k. h k .rest) few m) (lit< tt);
-      }
-
--- ---- the sums of a ticket
+way-small : (kind : Kind) (stake : ℕ) (words : List ℕ) → stake ≤ chargeLimit → (n k : ℕ) → AtMost (2 ^ 40) (waySums kind stake words n k)
+way-small kind stake words limit n k = prize-small words (prize kind stake n k) (prize-bound kind stake n k limit)
 
 module _ (t : Terms) (sizes hits : List ℕ) (c : Cut) (next : ℕ) where
-  abbrev cents : ℕ → ℕ
-  cents m = prize (t .kind) (t .stake) (taken m sizes) (taken m hits)
+  abbrev walk : Figures
+  walk = figuresFrom (t .types) (waySums (t .kind) (t .stake) (wordsOf c next)) sizes hits (t .groups) 0
 
-  pub ways-small : Sound t → (m : ℕ) → Small (waySumsAt t sizes hits c next m)
-  ways-small sound m =
-      record {
-        paid = le-of-lt (payUnder-bound c (cents m) bound);
-        floored = le-trans (tally-le (isMajor (cents m) && ltb (cents m) next)) (lit≤ tt);
-        rest = or-zero-le (isMajor (cents m) && leb next (cents m)) (cents m) (2 ^ 40) (le-of-lt bound);
-      }
-    where
-      bound : cents m < 2 ^ 40
-      bound = prize-bound (t .kind) (t .stake) (taken m sizes) (taken m hits) (sound .stake)
+  pub sums-walk-small : Sound t
+      → AtMost (2 ^ 48) (figuresFrom (t .types) (waySums (t .kind) (t .stake) (wordsOf c next)) sizes hits (t .groups) 0)
+  sums-walk-small sound =
+      figuresFrom-small (t .types) (waySums (t .kind) (t .stake) (wordsOf c next)) sizes hits
+      (way-small (t .kind) (t .stake) (wordsOf c next) (sound .stake)) (sound .groups) 0
 
   -- what the walk over all groups finds is what the rule names
-  pub sumsFrom-ticket : sumsFrom (t .types) (waySumsAt t sizes hits c next) (t .groups) 0 ≡ sumsOf t sizes hits c next
+  sums-walk : walk ≡ placed (sumsOf t sizes hits c next)
   unfolding prizesBy
-  sumsFrom-ticket =
-      same-sums (sumsFrom (t .types) (waySumsAt t sizes hits c next) (t .groups) 0) (sumsOf t sizes hits c next)
+  sums-walk =
+      same-figures walk (placed (sumsOf t sizes hits c next))
       (sumFrom-ways (t .types) (λ m. payUnder c (cents m)) (t .groups) ∙ sym (ap sum (map-map (payUnder c) cents all)))
       (sumFrom-ways (t .types) (λ m. cond (isMajor (cents m) && ltb (cents m) next) 1 0) (t .groups)
       ∙ sym (length-keep-map (λ p. isMajor p && ltb p next) cents all))
       (sumFrom-ways (t .types) (λ m. cond (isMajor (cents m) && leb next (cents m)) (cents m) 0) (t .groups)
       ∙ sym (sum-keep-map (λ p. isMajor p && leb next p) cents all))
     where
+      cents : ℕ → ℕ
+      cents m = prize (t .kind) (t .stake) (taken m sizes) (taken m hits)
+
       all : List ℕ
       all = ways (t .groups) (t .types)
+
+  pub sums-small : Sound t → (sumsOf t sizes hits c next .floored ≤ 2 ^ 48) × (sumsOf t sizes hits c next .rest ≤ 2 ^ 48)
+  sums-small sound = let s = subst (AtMost (2 ^ 48)) sums-walk (sums-walk-small sound) in (s .second, s .third)
+
+  pub sums-joined : {after : List ℕ}
+      → Joined (figuresFrom (t .types) (waySums (t .kind) (t .stake) (wordsOf c next)) sizes hits (t .groups) 0) (replicate 3 0) after
+      → _≡_ {A = Sums} (record { paid = getD after 0 0; floored = getD after 1 0; rest = getD after 2 0 }) (sumsOf t sizes hits c next)
+  sums-joined j = ap named (joined-start j ∙ sums-walk)

@@ -3,7 +3,7 @@
 use Prim.Native.Nat.{ℕ, zero, suc, _+_, _*_, _-_, _/_, _%_, _^_, _<_, max}
 use mathlib.Core.Path.{_≡_}
 use mathlib.Core.Bool.{Bool, true, false, cond, _&&_}
-use mathlib.Core.List.{List, map}
+use mathlib.Core.List.{List, [], _∷_, map}
 use lib.Dec.{ltb, leb, eqb}
 use lib.ListN.{length, getD}
 use lib.Count.{ones}
@@ -26,6 +26,42 @@ sumFrom types f (suc left) m = sumFrom types f left (m * 2 + 1) + sumFrom types 
 abbrev pub sizeBetween : ℕ → ℕ → List ℕ → ℕ → ℕ
 sizeBetween lo hi sizes m = cond (leb lo (taken m sizes) && leb (taken m sizes) hi) 1 0
 
+-- ---- the figures of a pass
+
+-- What a pass adds up over the ways, whichever three figures those are. It adds them in a table with a place for each.
+pub record Figures : Type 0 where
+  pub first : ℕ
+  pub second : ℕ
+  pub third : ℕ
+
+abbrev pub figures : ℕ → ℕ → ℕ → Figures
+figures a b c = record { first = a; second = b; third = c }
+
+-- the figures of a mask: those of the way that it is, or none
+abbrev pub orNone : Bool → Figures → Figures
+orNone t f = figures (cond t (f .first) 0) (cond t (f .second) 0) (cond t (f .third) 0)
+
+-- The figures over the ways that begin with a choice of groups: w has those of one way from the numbers that it selects and matches, and
+-- these come from the sizes and hits of the groups.
+abbrev pub figuresFrom : ℕ → (ℕ → ℕ → Figures) → List ℕ → List ℕ → ℕ → ℕ → Figures
+figuresFrom types w sizes hits left m =
+    figures
+    (sumFrom types (λ k. w (taken k sizes) (taken k hits) .first) left m)
+    (sumFrom types (λ k. w (taken k sizes) (taken k hits) .second) left m)
+    (sumFrom types (λ k. w (taken k sizes) (taken k hits) .third) left m)
+
+-- a table with room in each place for what is to be added there
+pub record Room (f : Figures) (table : List ℕ) : Type 0 where
+  pub first : getD table 0 0 + f .first < 2 ^ 64
+  pub second : getD table 1 0 + f .second < 2 ^ 64
+  pub third : getD table 2 0 + f .third < 2 ^ 64
+
+-- the table once the figures are added
+pub record Joined (f : Figures) (table after : List ℕ) : Type 0 where
+  pub first : getD after 0 0 ≡ getD table 0 0 + f .first
+  pub second : getD after 1 0 ≡ getD table 1 0 + f .second
+  pub third : getD after 2 0 ≡ getD table 2 0 + f .third
+
 -- ---- before any cut
 
 -- what a ticket's ways win
@@ -37,43 +73,13 @@ foundOf t sizes hits =
       full = fullBy t sizes hits;
     }
 
--- what one way wins, from the numbers that it selects and matches
-abbrev pub wayFound : Kind → ℕ → ℕ → ℕ → Found
-wayFound kind stake selection matched =
-    let p = prize kind stake selection matched in
-    record { prizes = p; majors = cond (isMajor p) p 0; full = cond (eqb matched selection) 1 0 }
-
--- the same of a mask, from the sizes and hits of the groups
-abbrev pub wayFoundAt : Kind → ℕ → List ℕ → List ℕ → ℕ → Found
-wayFoundAt kind stake sizes hits m = wayFound kind stake (taken m sizes) (taken m hits)
-
 abbrev pub nothing : Found
 nothing = record { prizes = 0; majors = 0; full = 0 }
 
-abbrev pub orNothing : Bool → Found → Found
-orNothing true f = f
-orNothing false f = nothing
-
--- the three figures, each summed over the ways that begin with a choice of groups
-abbrev pub foundFrom : ℕ → (ℕ → Found) → ℕ → ℕ → Found
-foundFrom types w left m =
-    record {
-      prizes = sumFrom types (λ k. w k .prizes) left m;
-      majors = sumFrom types (λ k. w k .majors) left m;
-      full = sumFrom types (λ k. w k .full) left m;
-    }
-
--- a table with a place for each figure, and room in each for what is to be added to it
-pub record Room (f : Found) (table : List ℕ) : Type 0 where
-  pub prizes : getD table 0 0 + f .prizes < 2 ^ 64
-  pub majors : getD table 1 0 + f .majors < 2 ^ 64
-  pub full : getD table 2 0 + f .full < 2 ^ 64
-
--- the table once the figures are added
-pub record Joined (f : Found) (table after : List ℕ) : Type 0 where
-  pub prizes : getD after 0 0 ≡ getD table 0 0 + f .prizes
-  pub majors : getD after 1 0 ≡ getD table 1 0 + f .majors
-  pub full : getD after 2 0 ≡ getD table 2 0 + f .full
+-- the same figures of one way, from the numbers that it selects and matches
+abbrev pub wayFound : Kind → ℕ → ℕ → ℕ → Figures
+wayFound kind stake selection matched =
+    let p = prize kind stake selection matched in figures p (cond (isMajor p) p 0) (cond (eqb matched selection) 1 0)
 
 -- ---- in a cut game. F as the prizes below a bound, with the size of F and B: what the code keeps of a cut
 
@@ -108,41 +114,24 @@ sumsOf t sizes hits c next =
       rest = sum (keep (λ p. isMajor p && leb next p) (prizesBy t sizes hits));
     }
 
--- what one way adds to a pass, from the numbers that it selects and matches
-abbrev pub waySums : Terms → Cut → ℕ → ℕ → ℕ → Sums
-waySums t c next selection matched =
-    let p = prize (t .kind) (t .stake) selection matched in
-    record {
-      paid = payUnder c p;
-      floored = cond (isMajor p && ltb p next) 1 0;
-      rest = cond (isMajor p && leb next p) p 0;
-    }
-
--- the same of a mask, from the sizes and hits of the groups
-abbrev pub waySumsAt : Terms → List ℕ → List ℕ → Cut → ℕ → ℕ → Sums
-waySumsAt t sizes hits c next m = waySums t c next (taken m sizes) (taken m hits)
-
 abbrev pub noSums : Sums
 noSums = record { paid = 0; floored = 0; rest = 0 }
 
-abbrev pub orNone : Bool → Sums → Sums
-orNone true s = s
-orNone false s = noSums
+-- A pass is lent the state of the cut and the bound of the next round as four words, since a struct cannot be lent.
+abbrev pub wordsOf : Cut → ℕ → List ℕ
+wordsOf c next = c .below ∷ c .count ∷ c .base ∷ next ∷ []
 
-abbrev pub plus : Sums → Sums → Sums
-plus a b = record { paid = a .paid + b .paid; floored = a .floored + b .floored; rest = a .rest + b .rest }
+abbrev pub cutIn : List ℕ → Cut
+cutIn words = record { below = getD words 0 0; count = getD words 1 0; base = getD words 2 0 }
 
--- sums small enough that two of them can be added in 64 bits
-pub record Addable (s : Sums) : Type 0 where
-  pub paid : s .paid < 2 ^ 63
-  pub floored : s .floored < 2 ^ 63
-  pub rest : s .rest < 2 ^ 63
+abbrev pub nextIn : List ℕ → ℕ
+nextIn words = getD words 3 0
 
--- the three figures of a pass, each summed over the ways that begin with a choice of groups
-abbrev pub sumsFrom : ℕ → (ℕ → Sums) → ℕ → ℕ → Sums
-sumsFrom types w left m =
-    record {
-      paid = sumFrom types (λ k. w k .paid) left m;
-      floored = sumFrom types (λ k. w k .floored) left m;
-      rest = sumFrom types (λ k. w k .rest) left m;
-    }
+-- the same figures of one way, under a state and a bound in words
+abbrev pub waySums : Kind → ℕ → List ℕ → ℕ → ℕ → Figures
+waySums kind stake words selection matched =
+    let p = prize kind stake selection matched in
+    figures
+    (payUnder (cutIn words) p)
+    (cond (isMajor p && ltb p (nextIn words)) 1 0)
+    (cond (isMajor p && leb (nextIn words) p) p 0)

@@ -1,5 +1,6 @@
 // What a ticket's ways win in a drawn game, before any cut. This pass goes over every way of every ticket, so it carries nothing of a cut,
 // takes the terms apart into words, and adds its figures in one table that all its calls are lent: the second call of each is then a jump.
+use crate::figures;
 use crate::prize;
 use crate::terms::Kind;
 use crate::terms::Terms;
@@ -7,12 +8,11 @@ use crate::ways;
 ghost use mathlib.Core.Path.{_≡_};
 ghost use mathlib.Core.Bool.{cond};
 ghost use lib.Dec.{eqb};
-ghost use lib.ListN.{length};
 ghost use lib.Count.{ones};
 ghost use Rattle.rules.specs.Prize.{isMajor};
 ghost use Rattle.rules.specs.Ways.{nominated};
 ghost use Rattle.rules.specs.Bounds.{Sound, Place, Carried};
-ghost use Rattle.rules.specs.Passes.{wayFound, wayFoundAt, orNothing, foundFrom, foundOf, Room, Joined};
+ghost use Rattle.rules.specs.Passes.{orNone, figuresFrom, Room, Joined, wayFound, foundOf};
 
 // Of a ticket's ways: the cents of their prizes, of those the major ones, and how many ways match all their numbers.
 pub struct Found {
@@ -21,20 +21,11 @@ pub struct Found {
     pub full: u64,
 }
 
-// A table is as long as its type says: learnt by lending it as a slice.
-fn known_places(found: &[u64; 3])
-    ensures { λ r. ⌜ length (now (found .entry)) ≡ 3 ⌝ }
-{
-    lent_places(found);
-}
-
-fn lent_places(_: &[u64]) {}
-
 // The cents of a prize where it is a major one.
 fn major_cents(cents: u64) -> u64
     ensures { λ r. ⌜ r ≡ cond (isMajor cents) cents 0 ⌝ }
 {
-    if cents < 20_000 { 0 } else { cents }
+    if prize::is_major(cents) { cents } else { 0 }
 }
 
 // 1 for a way that matches all the numbers it selects, and 0 for another.
@@ -49,11 +40,8 @@ fn find_way(size: u32, hit: u32, kind: Kind, stake: u32, found: &mut [u64; 3])
     requires { ⌜ Room (wayFound kind stake size hit) (now found) ⌝ }
     ensures { λ r. ⌜ Joined (wayFound kind stake size hit) (now (found .entry)) (now (found .exit)) ⌝ }
 {
-    known_places(found);
     let cents = prize::prize_of(kind, stake, size, hit);
-    found[0] += cents;
-    found[1] += major_cents(cents);
-    found[2] += full_match(size, hit);
+    figures::add(cents, major_cents(cents), full_match(size, hit), found);
 }
 
 // Adds the figures of a mask of groups, which is a way or none. It selects `size` numbers and matches `hit` of them.
@@ -66,8 +54,8 @@ fn find_mask(
     types: u8,
     found: &mut [u64; 3],
 )
-    requires { ⌜ Place 0 mask × Room (orNothing (nominated types (ones mask)) (wayFound kind stake size hit)) (now found) ⌝ }
-    ensures { λ r. ⌜ Joined (orNothing (nominated types (ones mask)) (wayFound kind stake size hit)) (now (found .entry)) (now (found .exit)) ⌝ }
+    requires { ⌜ Place 0 mask × Room (orNone (nominated types (ones mask)) (wayFound kind stake size hit)) (now found) ⌝ }
+    ensures { λ r. ⌜ Joined (orNone (nominated types (ones mask)) (wayFound kind stake size hit)) (now (found .entry)) (now (found .exit)) ⌝ }
 {
     if !ways::nominates(types, u32::count_ones(mask)) {
         return;
@@ -89,8 +77,8 @@ fn find_from(
     hits: [u8; 8],
     found: &mut [u64; 3],
 )
-    requires { ⌜ Place left mask × Carried left mask size sizes × Carried left mask hit hits × Room (foundFrom types (wayFoundAt kind stake sizes hits) left mask) (now found) ⌝ }
-    ensures { λ r. ⌜ Joined (foundFrom types (wayFoundAt kind stake sizes hits) left mask) (now (found .entry)) (now (found .exit)) ⌝ }
+    requires { ⌜ Place left mask × Carried left mask size sizes × Carried left mask hit hits × Room (figuresFrom types (wayFound kind stake) sizes hits left mask) (now found) ⌝ }
+    ensures { λ r. ⌜ Joined (figuresFrom types (wayFound kind stake) sizes hits left mask) (now (found .entry)) (now (found .exit)) ⌝ }
 {
     if left == 0 {
         find_mask(mask, size, hit, kind, stake, types, found);

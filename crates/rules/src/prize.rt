@@ -3,7 +3,7 @@ use crate::schedule;
 use crate::terms::Kind;
 use crate::terms::Schedule;
 ghost use mathlib.Core.Path.{_≡_};
-ghost use Rattle.rules.specs.Prize.{dollars, prize};
+ghost use Rattle.rules.specs.Prize.{isMajor, dollars, prize};
 
 // What a way wins for a stake of one dollar, jackpot shares aside.
 pub fn dollars_of(kind: Kind, selection: u32, matched: u32) -> u16
@@ -34,4 +34,11 @@ pub fn prize_of(kind: Kind, stake: u32, selection: u32, matched: u32) -> u64
         return cents;
     }
     if cents < 5_000_000 { cents } else { 5_000_000 }
+}
+
+// Whether a prize is a major one.
+pub fn is_major(cents: u64) -> bool
+    ensures { λ r. ⌜ r ≡ isMajor cents ⌝ }
+{
+    cents >= 20_000
 }

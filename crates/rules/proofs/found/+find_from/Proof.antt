@@ -12,10 +12,9 @@ use borrow.Author.Needs.{needs}
 use borrow.Fn.Kinds.{In}
 use borrow.Fn.PlainCycle.{Measures, is, falls, and}
 use Rattle.rules.specs.Ways.{nominated}
-use Rattle.rules.specs.Passes.{wayFound, wayFoundAt, orNothing, foundFrom, Room}
-use Rattle.rules.specs.declared.found.Found.{Found}
+use Rattle.rules.specs.Passes.{Figures, orNone, figuresFrom, Room, wayFound}
 use Rattle.rules.proofs.WayLaws.{mask-lt, place-end, place-with, place-without, carried-with, carried-without}
-use Rattle.rules.proofs.FoundLaws.{foundFrom-end, room-with, room-without, joined-both}
+use Rattle.rules.proofs.FigureLaws.{figuresFrom-end, room-with, room-without, joined-both}
 use Rattle.rules.proofs.found.find_from.Reads as find-from
 use Rattle.rules.proofs.found.find_from.Kinds as kinds
 use Rattle.rules.proofs.found.+find_from.Lts-find_from as lts
@@ -46,19 +45,19 @@ module _ (t : ℕ) where
 
   -- where no group is left, the figures are the mask's own
   own : (c : lts.Then1 called given find-from.Post)
-      → foundFrom (c .before .args .types) (wayFoundAt (c .before .args .kind) (c .before .args .stake) (c .before .args .t8) (c .before .args .t9)) (c .before .args .left) (c .before .args .mask)
-      ≡ orNothing (nominated (c .before .args .types) (ones (c .before .args .mask))) (wayFound (c .before .args .kind) (c .before .args .stake) (c .before .args .size) (c .before .args .hit))
+      → figuresFrom (c .before .args .types) (wayFound (c .before .args .kind) (c .before .args .stake)) (c .before .args .t8) (c .before .args .t9) (c .before .args .left) (c .before .args .mask)
+      ≡ orNone (nominated (c .before .args .types) (ones (c .before .args .mask))) (wayFound (c .before .args .kind) (c .before .args .stake) (c .before .args .size) (c .before .args .hit))
   own c =
       let a = c .before .args in
       let pre = c .before .pre .1 in
-      foundFrom-end (a .kind) (a .stake) (a .types) (a .t8) (a .t9) (a .mask) (c .if1 .taken) (pre .1) (pre .2)
+      figuresFrom-end (a .types) (wayFound (a .kind) (a .stake)) (a .t8) (a .t9) (a .mask) (c .if1 .taken) (pre .1) (pre .2)
 
   find-mask-requires : lts.Need-find-mask-requires called given find-from.Post
   find-mask-requires c κs =
       let start = c .before .before in
       let pre = start .pre .1 in (
         place-end (c .before .if1 .taken) (pre .0),
-        subst (λ (f : Found). Room f (start .args .found .now)) (own (c .before)) (pre .3),
+        subst (λ (f : Figures). Room f (start .args .found .now)) (own (c .before)) (pre .3),
       )
 
   returns : lts.Need-returns called given find-from.Post
@@ -102,7 +101,7 @@ module _ (t : ℕ) where
           place-with some (pre .1 .0),
           carried-with some (pre .1 .0 .groups) (pre .1 .1) (size-byte (c .before)),
           carried-with some (pre .1 .0 .groups) (pre .1 .2) (hit-byte (c .before)),
-          room-with (a .types) (wayFoundAt (a .kind) (a .stake) (a .t8) (a .t9)) (a .mask) some (pre .1 .3),
+          room-with (a .types) (wayFound (a .kind) (a .stake)) (a .t8) (a .t9) (a .mask) some (pre .1 .3),
         ),
       )
 
@@ -120,7 +119,7 @@ module _ (t : ℕ) where
           place-without some (pre .1 .0),
           carried-without some (pre .1 .1),
           carried-without some (pre .1 .2),
-          room-without (a .types) (wayFoundAt (a .kind) (a .stake) (a .t8) (a .t9)) (a .mask) some (c .before .find-from .ensures) (pre .1 .3),
+          room-without (a .types) (wayFound (a .kind) (a .stake)) (a .t8) (a .t9) (a .mask) some (c .before .find-from .ensures) (pre .1 .3),
         ),
       )
 
@@ -128,7 +127,7 @@ module _ (t : ℕ) where
   returns-2 c =
       let first = c .before .before in
       let a = first .before .before .before .args in
-      joined-both (a .types) (wayFoundAt (a .kind) (a .stake) (a .t8) (a .t9)) (a .mask) (first .before .before .if1 .left)
+      joined-both (a .types) (wayFound (a .kind) (a .stake)) (a .t8) (a .t9) (a .mask) (first .before .before .if1 .left)
       (first .find-from .ensures) (c .find-from2 .ensures)
 
 pub +find-from-spec : {M : Type 1} → statement M

@@ -4,9 +4,9 @@ use mathlib.Core.Bool.{true, false}
 use lib.Count.{ones, ones-le}
 use borrow.Author.Tests.{not-true, not-false}
 use Rattle.rules.specs.Ways.{nominated}
-use Rattle.rules.specs.Passes.{wayFound, orNothing, Room}
+use Rattle.rules.specs.Passes.{orNone, Room, wayFound}
 use Rattle.rules.proofs.WayLaws.{mask-lt}
-use Rattle.rules.proofs.FoundLaws.{nothing-joined}
+use Rattle.rules.proofs.FigureLaws.{none-joined}
 use Rattle.rules.proofs.found.find_mask.Statement.{statement}
 use Rattle.rules.proofs.found.find_mask.Tie as tie
 
@@ -18,7 +18,7 @@ returns c =
     let args = c .before .before .args in
     let none : nominated (args .types) (ones (args .mask)) ≡ false =
     sym (c .before .nominates .ensures) ∙ not-true _ (c .if1 .taken) in
-    rw none (nothing-joined (args .found .now))
+    rw none (none-joined (wayFound (args .kind) (args .stake) (args .size) (args .hit)) (args .found .now))
 
 -- the mask is a way
 a-way : (c : tie.Else1) → nominated (c .before .before .args .types) (ones (c .before .before .args .mask)) ≡ true
@@ -28,7 +28,7 @@ find-way-requires : tie.Need-find-way-requires
 find-way-requires c κs =
     let start = c .before .before .before in
     let args = start .args in
-    subst (λ t. Room (orNothing t (wayFound (args .kind) (args .stake) (args .size) (args .hit))) (args .found .now)) (a-way (c .before)) (start .pre .1)
+    subst (λ t. Room (orNone t (wayFound (args .kind) (args .stake) (args .size) (args .hit))) (args .found .now)) (a-way (c .before)) (start .pre .1)
 
 returns-2 : tie.Need-returns-2
 returns-2 c = rw (a-way (c .before .before)) (c .find-way .ensures)

@@ -1,7 +1,8 @@
 -- `rules::found::ticket_prizes` meets its contract: the walk starts with no group taken and an empty table, and finds what the rule names.
 use borrow.Author.Needs.{needs}
 use Rattle.rules.proofs.WayLaws.{start-place, start-carried}
-use Rattle.rules.proofs.FoundLaws.{start-room, joined-ticket}
+use Rattle.rules.proofs.FigureLaws.{start-room}
+use Rattle.rules.proofs.FoundLaws.{found-walk-small, found-joined}
 use Rattle.rules.proofs.found.ticket_prizes.Statement.{statement}
 use Rattle.rules.proofs.found.ticket_prizes.Tie as tie
 
@@ -14,7 +15,7 @@ find-from-requires c κs =
       start-place (c .before .pre .groups),
       start-carried (a .terms .groups) (a .sizes),
       start-carried (a .terms .groups) (a .hits),
-      start-room (a .terms) (a .sizes) (a .hits) (c .before .pre),
+      start-room (found-walk-small (a .terms) (a .sizes) (a .hits) (c .before .pre)),
     )
 
 array-read-t12 : tie.Need-array-read-t12
@@ -29,7 +30,7 @@ array-read-t18 c = search needs
 returns : tie.Need-returns
 returns c =
     let a = c .before .before .args in
-    joined-ticket (a .terms) (a .sizes) (a .hits) (c .find-from .ensures)
+    found-joined (a .terms) (a .sizes) (a .hits) (c .find-from .ensures)
 
 pub ticket-prizes-spec : {M : Type 1} → statement M
 ticket-prizes-spec =
