@@ -72,9 +72,7 @@ none-joined f table = record { first = omega arith; second = omega arith; third 
 -- ---- the steps of the walk
 
 module _ (types : ℕ) (w : ℕ → ℕ → Figures) (sizes hits : List ℕ) where
-  abbrev from : ℕ → ℕ → Figures
-  from left m = figuresFrom types w sizes hits left m
-
+  -- a figure of a mask
   abbrev at : (Figures → ℕ) → ℕ → ℕ
   at figure m = figure (w (taken m sizes) (taken m hits))
 
@@ -82,7 +80,7 @@ module _ (types : ℕ) (w : ℕ → ℕ → Figures) (sizes hits : List ℕ) whe
   pub figuresFrom-end : (m : ℕ) {left size hit : ℕ} → left ≡ 0 → Carried left m size sizes → Carried left m hit hits
       → figuresFrom types w sizes hits left m ≡ orNone (nominated types (ones m)) (w size hit)
   figuresFrom-end m {left} none s h =
-      same-figures (from left m) (orNone (nominated types (ones m)) (w (taken m sizes) (taken m hits)))
+      same-figures (figuresFrom types w sizes hits left m) (orNone (nominated types (ones m)) (w (taken m sizes) (taken m hits)))
       (sumFrom-none types (at (λ f. f .first)) m none)
       (sumFrom-none types (at (λ f. f .second)) m none)
       (sumFrom-none types (at (λ f. f .third)) m none)

@@ -1,5 +1,5 @@
 -- Laws on the first pass over a ticket's ways: over all groups its figures are those that the rule names, and small.
-use Prim.Native.Nat.{ℕ, _≤_, _<_, _^_}
+use Prim.Native.Nat.{ℕ, _≤_, _^_}
 use mathlib.Core.Path.{_≡_, sym, ap, _∙_, subst}
 use mathlib.Core.Bool.{cond}
 use mathlib.Core.List.{List}

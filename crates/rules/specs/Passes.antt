@@ -2,7 +2,7 @@
 -- round to the next. The laws in proofs/ join these to the definitions above: no prize is ever stored.
 use Prim.Native.Nat.{ℕ, zero, suc, _+_, _*_, _-_, _/_, _%_, _^_, _<_, max}
 use mathlib.Core.Path.{_≡_}
-use mathlib.Core.Bool.{Bool, true, false, cond, _&&_}
+use mathlib.Core.Bool.{Bool, cond, _&&_}
 use mathlib.Core.List.{List, [], _∷_, map}
 use lib.Dec.{ltb, leb, eqb}
 use lib.ListN.{length, getD}
@@ -117,7 +117,7 @@ sumsOf t sizes hits c next =
 abbrev pub noSums : Sums
 noSums = record { paid = 0; floored = 0; rest = 0 }
 
--- A pass is lent the state of the cut and the bound of the next round as four words, since a struct cannot be lent.
+-- the words in which a pass is lent the state of the cut and the bound of the next round, and the two read from them
 abbrev pub wordsOf : Cut → ℕ → List ℕ
 wordsOf c next = c .below ∷ c .count ∷ c .base ∷ next ∷ []
 

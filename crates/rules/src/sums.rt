@@ -1,5 +1,5 @@
-// One round of the cut over a ticket's ways, in the shape of the first pass. The state of the cut and the bound of the next round are lent
-// as four words, since a struct cannot be lent: `below`, `count` and `base` of the state, then the bound.
+// One round of the cut over a ticket's ways, in the shape of the first pass. A struct cannot be lent, so the state of the cut and the bound
+// of the next round are lent as four words: `below`, `count`, `base`, and the bound.
 use crate::cut::Cut;
 use crate::figures;
 use crate::prize;
