@@ -9,6 +9,7 @@ pub mod CutSigned
 pub mod CutRounds
 pub mod CutStates
 pub mod CutPayouts
+pub mod CutFloors
 pub mod FigureLaws
 pub mod SumLaws
 pub mod FoundLaws
