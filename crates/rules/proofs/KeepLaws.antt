@@ -2,9 +2,9 @@
 -- parts that a test splits a sum into.
 use mathlib.Core.Path.{_≡_, refl, sym, ap, _∙_}
 use mathlib.Core.Bool.{Bool, true, false, cond, not, false≢true}
-use mathlib.Core.List.{List, [], _∷_, _++_, List·Memᴰ, List·Memᴰ·head, List·Memᴰ·tail}
-use Prim.Native.Nat.{ℕ, suc, _+_, _≤_, _<_}
-use native.Mathlib.Nat.{le-refl}
+use mathlib.Core.List.{List, [], _∷_, _++_, map, List·Memᴰ, List·Memᴰ·head, List·Memᴰ·tail}
+use Prim.Native.Nat.{ℕ, suc, _+_, _*_, _≤_, _<_}
+use native.Mathlib.Nat.{le-refl, suc-mul, zero-mul}
 use native.Mathlib.Omega.{arith}
 use lib.Dec.{ltb, leb}
 use lib.ListN.{length}
@@ -130,3 +130,16 @@ kept-le-sum f (x ∷ xs) p (List·Memᴰ·tail m) h = go (f x) (keep f xs) (kept
 
 pub member-le-sum : (xs : List ℕ) (p : ℕ) → List·Memᴰ p xs → p ≤ sum xs
 member-le-sum xs p m = rw keep-all at (kept-le-sum (λ x. true) xs p m refl)
+
+-- a sum of values, each within a bound
+pub sum-within : {A : Type 0} (f : A → ℕ) (most : ℕ) (xs : List A) →
+    ((x : A) → List·Memᴰ x xs → f x ≤ most) → sum (map f xs) ≤ length xs * most
+unfolding sum
+sum-within f most [] each = omega (arith, zero-mul most)
+sum-within f most (x ∷ xs) each =
+    omega (
+      arith,
+      each x (List·Memᴰ·head refl),
+      sum-within f most xs (λ y m. each y (List·Memᴰ·tail m)),
+      suc-mul (length xs) most,
+    )

@@ -11,8 +11,7 @@ pub mod CutRounds
 pub mod CutStates
 pub mod CutPayouts
 pub mod CutFloors
-pub mod FigureLaws
-pub mod SumLaws
+pub mod MajorLaws
 pub mod FoundLaws
 pub mod ShareLaws
 pub mod SettleLaws

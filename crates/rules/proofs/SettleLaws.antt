@@ -4,7 +4,7 @@ use mathlib.Core.Path.{_≡_, refl, ap, _∙_}
 use mathlib.Core.Bool.{Bool, true, false, cond, _||_}
 use mathlib.Core.List.{List, [], _∷_, _++_, map, zipWith, List·Memᴰ, List·Memᴰ·head, List·Memᴰ·tail}
 use Prim.Native.Nat.{ℕ, suc, _+_, _*_, _≤_}
-use native.Mathlib.Nat.{suc-mul, zero-mul, le-trans, mul-le-mul-right}
+use native.Mathlib.Nat.{le-trans, mul-le-mul-right}
 use native.Mathlib.Omega.{arith}
 use lib.Dec.{eqb}
 use lib.ListN.{length, length-map}
@@ -17,6 +17,7 @@ use Rattle.rules.specs.Jackpots.{guaranteeOfSix, guaranteeOfEight, poole
 use Rattle.rules.specs.Settle.{Entry, prizesBy, wayPrizes, jackpotBy, winnerOf, paidFor, majorsOf, prizesOf, settleJackpot, settle}
 use Rattle.rules.specs.declared.terms.Draw.{Draw}
 use Rattle.rules.specs.declared.jackpot.Jackpot.{Jackpot}
+use Rattle.rules.proofs.KeepLaws.{sum-within}
 use Rattle.rules.proofs.ShareLaws.{won-shares, no-shares, length-shares}
 
 -- lists of one length added by element
@@ -302,19 +303,6 @@ member-keep f x (y ∷ ys) m passes = go (eqb x y) refl m (λ later. member-keep
         any (eqb x) (cond (f y) (y ∷ keep f ys) (keep f ys)) ≡ true
     go true same first later = rw (← eqb-true x y same, passes, eq-eqb x x refl)
     go false other first later = later-kept (f y) (later first)
-
--- a sum of values, each within a bound
-sum-within : {A : Type 0} (f : A → ℕ) (most : ℕ) (xs : List A) →
-    ((x : A) → List·Memᴰ x xs → f x ≤ most) → sum (map f xs) ≤ length xs * most
-unfolding sum
-sum-within f most [] each = omega (arith, zero-mul most)
-sum-within f most (x ∷ xs) each =
-    omega (
-      arith,
-      each x (List·Memᴰ·head refl),
-      sum-within f most xs (λ y m. each y (List·Memᴰ·tail m)),
-      suc-mul (length xs) most,
-    )
 
 -- a prize for each way
 pub way-prizes-count : (draw : Draw) (e : Entry) → length (wayPrizes draw e) ≡ length (ways (e .terms .groups) (e .terms .types))

@@ -79,7 +79,7 @@ module _ {A : Type 0} (p : ℕ → Bool) (g : A → ℕ) (xs : List A) where
 
 -- ---- a sum over masks
 
-sum-append : (xs ys : List ℕ) → sum (xs ++ ys) ≡ sum xs + sum ys
+pub sum-append : (xs ys : List ℕ) → sum (xs ++ ys) ≡ sum xs + sum ys
 unfolding sum
 sum-append [] ys = sym (zero-add (sum ys))
 sum-append (x ∷ xs) ys = ap (λ n. x + n) (sum-append xs ys) ∙ sym (add-assoc x (sum xs) (sum ys))

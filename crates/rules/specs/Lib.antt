@@ -10,3 +10,4 @@ pub mod Jackpots
 pub mod Settle
 pub mod Bounds
 pub mod Passes
+pub mod Found

@@ -1,21 +1,17 @@
 -- What the code computes of a ticket in one pass over its ways, before any cut and in a round of it, and the state that it carries from one
 -- round to the next. The laws in proofs/ join these to the definitions above: no prize is ever stored.
-use Prim.Native.Nat.{ℕ, zero, suc, _+_, _*_, _-_, _/_, _%_, _^_, _<_, max}
+use Prim.Native.Nat.{ℕ, zero, suc, _+_, _*_, _-_, _/_, _%_, _^_, _≤_, _<_, max}
 use mathlib.Core.Path.{_≡_}
 use mathlib.Core.Bool.{Bool, cond, not, _&&_}
-use mathlib.Core.List.{List, [], _∷_, _++_, map}
+use mathlib.Core.List.{List, [], _∷_, _++_, map, List·Memᴰ}
 use lib.Dec.{ltb, leb, eqb}
-use lib.ListN.{length, getD}
+use lib.ListN.{length, take, drop}
 use lib.Count.{ones}
 use Rattle.rules.specs.Lists.{sum, keep}
 use Rattle.rules.specs.Ways.{nominated, taken}
-use Rattle.rules.specs.Prize.{prizeLimit, majorFloor, isMajor, prize}
-use Rattle.rules.specs.Settle.{prizesBy, fullBy}
-use Rattle.rules.specs.declared.terms.Kind.{Kind}
-use Rattle.rules.specs.declared.terms.Terms.{Terms}
-use Rattle.rules.specs.declared.found.Found.{Found}
+use Rattle.rules.specs.Prize.{prizeLimit, majorFloor, isMajor}
+use Rattle.rules.specs.Cut.{payout}
 use Rattle.rules.specs.declared.cut.Cut.{Cut}
-use Rattle.rules.specs.declared.sums.Sums.{Sums}
 
 -- The ways that begin with the groups in a mask, where so many groups are left to take or to leave. Leaving comes first, so that the masks
 -- rise.
@@ -37,66 +33,15 @@ sumFrom types f (suc left) m = sumFrom types f left (m * 2 + 1) + sumFrom types 
 abbrev pub sizeBetween : ℕ → ℕ → List ℕ → ℕ → ℕ
 sizeBetween lo hi sizes m = cond (leb lo (taken m sizes) && leb (taken m sizes) hi) 1 0
 
--- ---- the figures of a pass
-
--- What a pass adds up over the ways, whichever three figures those are. It adds them in a table with a place for each.
-pub record Figures : Type 0 where
-  pub first : ℕ
-  pub second : ℕ
-  pub third : ℕ
-
-abbrev pub figures : ℕ → ℕ → ℕ → Figures
-figures a b c = record { first = a; second = b; third = c }
-
--- the figures of a mask: those of the way that it is, or none
-abbrev pub orNone : Bool → Figures → Figures
-orNone t f = figures (cond t (f .first) 0) (cond t (f .second) 0) (cond t (f .third) 0)
-
--- The figures over the ways that begin with a choice of groups: w has those of one way from the numbers that it selects and matches, and
--- these come from the sizes and hits of the groups.
-abbrev pub figuresFrom : ℕ → (ℕ → ℕ → Figures) → List ℕ → List ℕ → ℕ → ℕ → Figures
-figuresFrom types w sizes hits left m =
-    figures
-    (sumFrom types (λ k. w (taken k sizes) (taken k hits) .first) left m)
-    (sumFrom types (λ k. w (taken k sizes) (taken k hits) .second) left m)
-    (sumFrom types (λ k. w (taken k sizes) (taken k hits) .third) left m)
-
--- a table with room in each place for what is to be added there
-pub record Room (f : Figures) (table : List ℕ) : Type 0 where
-  pub first : getD table 0 0 + f .first < 2 ^ 64
-  pub second : getD table 1 0 + f .second < 2 ^ 64
-  pub third : getD table 2 0 + f .third < 2 ^ 64
-
--- the table once the figures are added
-pub record Joined (f : Figures) (table after : List ℕ) : Type 0 where
-  pub first : getD after 0 0 ≡ getD table 0 0 + f .first
-  pub second : getD after 1 0 ≡ getD table 1 0 + f .second
-  pub third : getD after 2 0 ≡ getD table 2 0 + f .third
-
--- ---- before any cut
-
--- what a ticket's ways win
-abbrev pub foundOf : Terms → List ℕ → List ℕ → Found
-foundOf t sizes hits =
-    record {
-      prizes = sum (prizesBy t sizes hits);
-      majors = sum (keep isMajor (prizesBy t sizes hits));
-      full = fullBy t sizes hits;
-    }
-
-abbrev pub nothing : Found
-nothing = record { prizes = 0; majors = 0; full = 0 }
-
--- the same figures of one way, from the numbers that it selects and matches
-abbrev pub wayFound : Kind → ℕ → ℕ → ℕ → Figures
-wayFound kind stake selection matched =
-    let p = prize kind stake selection matched in figures p (cond (isMajor p) p 0) (cond (eqb matched selection) 1 0)
-
 -- ---- in a cut game. F as the prizes below a bound, with the size of F and B: what the code keeps of a cut
 
 -- F empty, and B the sum of all major prizes
 abbrev pub firstCut : ℕ → Cut
 firstCut base = record { below = 0; count = 0; base = base }
+
+-- F empty, and every prize its own part of the limit, so that it is paid in full
+abbrev pub uncut : Cut
+uncut = record { below = 0; count = 0; base = prizeLimit }
 
 -- A, or 0 where it is below zero
 abbrev pub shareable : Cut → ℕ
@@ -116,33 +61,33 @@ nextBelow c =
     (cond (leb 250 (c .count)) (c .base + 1)
     (majorFloor * (c .base / shareable c) + (majorFloor * (c .base % shareable c) + (shareable c - 1)) / shareable c))
 
--- a pass over the ways of a ticket, with the bound of the next round
-abbrev pub sumsOf : Terms → List ℕ → List ℕ → Cut → ℕ → Sums
-sumsOf t sizes hits c next =
-    record {
-      paid = sum (map (payUnder c) (prizesBy t sizes hits));
-      floored = length (keep (λ p. isMajor p && ltb p next) (prizesBy t sizes hits));
-      rest = sum (keep (λ p. isMajor p && leb next p) (prizesBy t sizes hits));
-    }
+-- F the prizes of a list that are below a bound
+abbrev pub cutBelow : ℕ → List ℕ → Cut
+cutBelow bound ps =
+    record { below = bound; count = length (keep (λ p. ltb p bound) ps); base = sum (keep (λ p. leb bound p) ps) }
 
-abbrev pub noSums : Sums
-noSums = record { paid = 0; floored = 0; rest = 0 }
+-- a state under which each of a game's major prizes is paid what the rule says
+pub record Pays (c : Cut) (ps : List ℕ) : Type 0 where
+  pub each : (p : ℕ) → List·Memᴰ p ps → payUnder c p ≡ payout ps p
 
--- the words in which a pass is lent the state of the cut and the bound of the next round, and the two read from them
-abbrev pub wordsOf : Cut → ℕ → List ℕ
-wordsOf c next = c .below ∷ c .count ∷ c .base ∷ next ∷ []
+-- ---- major prizes in a table
 
-abbrev pub cutIn : List ℕ → Cut
-cutIn words = record { below = getD words 0 0; count = getD words 1 0; base = getD words 2 0 }
+-- the first prizes of a table: each a major one, whose product with all that there is to share fits
+pub record Listed (table : List ℕ) (count : ℕ) : Type 0 where
+  pub few : count ≤ 250
+  pub long : length table ≡ 250
+  pub large : (p : ℕ) → List·Memᴰ p (take count table) → majorFloor ≤ p
+  pub small : (p : ℕ) → List·Memᴰ p (take count table) → p < 2 ^ 40
 
-abbrev pub nextIn : List ℕ → ℕ
-nextIn words = getD words 3 0
+-- prizes that make so many cents, which pass the limit
+pub record PastLimit (ps : List ℕ) (cents : ℕ) : Type 0 where
+  pub total : cents ≡ sum ps
+  pub past : prizeLimit < cents
 
--- the same figures of one way, under a state and a bound in words
-abbrev pub waySums : Kind → ℕ → List ℕ → ℕ → ℕ → Figures
-waySums kind stake words selection matched =
-    let p = prize kind stake selection matched in
-    figures
-    (payUnder (cutIn words) p)
-    (cond (isMajor p && ltb p (nextIn words)) 1 0)
-    (cond (isMajor p && leb (nextIn words) p) p 0)
+-- prizes of a table, from a place on and so many, that are paid from the floor to the limit
+pub record Raised (c : Cut) (table : List ℕ) (from many : ℕ) : Type 0 where
+  pub inside : from + many ≤ 250
+  pub long : length table ≡ 250
+  pub small : (p : ℕ) → List·Memᴰ p (take many (drop from table)) → p < 2 ^ 40
+  pub least : (p : ℕ) → List·Memᴰ p (take many (drop from table)) → majorFloor ≤ payUnder c p
+  pub most : (p : ℕ) → List·Memᴰ p (take many (drop from table)) → payUnder c p ≤ prizeLimit

@@ -1,8 +1,8 @@
-// The cut of a game's major prizes (rules 12.3 to 12.5), without a list of them.
+// One round of the cut of a game's major prizes (rules 12.3 to 12.5).
 ghost use mathlib.Core.Path.{_≡_};
 ghost use Prim.Native.Nat.{_+_, _*_, _-_, _/_, _%_, max};
 ghost use Rattle.rules.specs.Bounds.{Payable, Cuttable, Divided};
-ghost use Rattle.rules.specs.Passes.{firstCut, payUnder, nextBelow};
+ghost use Rattle.rules.specs.Passes.{firstCut, uncut, payUnder, nextBelow};
 
 // A round of the cut: the floored prizes are those below `below`, `count` of them, and the others make `base` cents.
 pub struct Cut {
@@ -20,6 +20,17 @@ impl Cut {
             below: 0,
             count: 0,
             base,
+        }
+    }
+
+    // The state under which no prize is cut: each is its own part of the limit.
+    pub fn none() -> Cut
+        ensures { λ r. ⌜ r ≡ uncut ⌝ }
+    {
+        Cut {
+            below: 0,
+            count: 0,
+            base: 5_000_000,
         }
     }
 

@@ -1,5 +1,6 @@
-// What a ticket's ways win in a drawn game, before any cut. This pass goes over every way of every ticket, so it carries nothing of a cut,
-// takes the terms apart into words, and adds its figures in one table that all its calls are lent: the second call of each is then a jump.
+// What a ticket's ways win in a drawn game: one pass over them, for every ticket of the game. It takes the terms apart into words, carries in one
+// word the numbers that a way selects and those of them that are drawn, and adds its figures in tables that all its calls are lent: the second
+// call of each is then a jump. It leaves a group before it takes it, so that the ways come in their order.
 use crate::figures;
 use crate::prize;
 use crate::terms::Kind;
@@ -7,135 +8,135 @@ use crate::terms::Terms;
 use crate::ways;
 ghost use mathlib.Core.Path.{_≡_};
 ghost use mathlib.Core.Bool.{cond};
+ghost use mathlib.Core.List.{[], _∷_};
 ghost use lib.Dec.{eqb};
 ghost use lib.Count.{ones};
-ghost use Rattle.rules.specs.Prize.{isMajor};
+ghost use lib.ListN.{length};
 ghost use Rattle.rules.specs.Ways.{nominated};
-ghost use Rattle.rules.specs.Bounds.{Sound, Place, Carried};
-ghost use Rattle.rules.specs.Passes.{orNone, figuresFrom, Room, Joined, wayFound, foundOf};
+ghost use Rattle.rules.specs.Bounds.{Sound, Place};
+ghost use Rattle.rules.specs.Passes.{waysFrom};
+ghost use Rattle.rules.specs.Found.{sizeIn, hitsIn, groupSizes, groupHits, Groups, Carries, pairsFrom, Room, JoinedWays, wayOrNone, Counting, FoundWith};
 
-// Of a ticket's ways: the cents of their prizes, of those the major ones, and how many ways match all their numbers.
+// Of a ticket's ways: the cents that they are paid in any case, of each major prize the floor; how many match all their numbers; and how many
+// major prizes there are, with those of the tickets before.
 pub struct Found {
-    pub prizes: u64,
-    pub majors: u64,
+    pub sure: u64,
     pub full: u64,
-}
-
-// The cents of a prize where it is a major one.
-fn major_cents(cents: u64) -> u64
-    ensures { λ r. ⌜ r ≡ cond (isMajor cents) cents 0 ⌝ }
-{
-    if prize::is_major(cents) { cents } else { 0 }
+    pub majors: u64,
 }
 
 // 1 for a way that matches all the numbers it selects, and 0 for another.
-fn full_match(size: u32, hit: u32) -> u64
-    ensures { λ r. ⌜ r ≡ cond (eqb hit size) 1 0 ⌝ }
+fn full_match(pair: u32) -> u64
+    ensures { λ r. ⌜ r ≡ cond (eqb (hitsIn pair) (sizeIn pair)) 1 0 ⌝ }
 {
-    if hit == size { 1 } else { 0 }
+    if pair % 4096 == pair / 4096 { 1 } else { 0 }
 }
 
-// Adds the figures of a way, which selects `size` numbers and matches `hit` of them.
-fn find_way(size: u32, hit: u32, kind: Kind, stake: u32, found: &mut [u64; 3])
-    requires { ⌜ Room (wayFound kind stake size hit) (now found) ⌝ }
-    ensures { λ r. ⌜ Joined (wayFound kind stake size hit) (now (found .entry)) (now (found .exit)) ⌝ }
+// Adds the figures of a way.
+fn find_way(pair: u32, kind: Kind, stake: u32, found: &mut [u64; 3], majors: &mut [u64; 250])
+    requires { ⌜ Room 1 (now found) ⌝ }
+    ensures { λ r. ⌜ JoinedWays kind stake (pair ∷ []) (now (found .entry)) (now (majors .entry)) (now (found .exit)) (now (majors .exit)) ⌝ }
 {
-    let cents = prize::prize_of(kind, stake, size, hit);
-    figures::add(cents, major_cents(cents), full_match(size, hit), found);
+    let cents = prize::prize_of(kind, stake, pair / 4096, pair % 4096);
+    let full = full_match(pair);
+    if !prize::is_major(cents) {
+        figures::add(cents, full, found);
+        return;
+    }
+    figures::add(20_000, full, found);
+    figures::store(cents, found, majors);
 }
 
-// Adds the figures of a mask of groups, which is a way or none. It selects `size` numbers and matches `hit` of them.
+// Adds the figures of a mask of groups, which is a way or none.
 fn find_mask(
     mask: u32,
-    size: u32,
-    hit: u32,
+    pair: u32,
     kind: Kind,
     stake: u32,
     types: u8,
     found: &mut [u64; 3],
+    majors: &mut [u64; 250],
 )
-    requires { ⌜ Place 0 mask × Room (orNone (nominated types (ones mask)) (wayFound kind stake size hit)) (now found) ⌝ }
-    ensures { λ r. ⌜ Joined (orNone (nominated types (ones mask)) (wayFound kind stake size hit)) (now (found .entry)) (now (found .exit)) ⌝ }
+    requires { ⌜ Place 0 mask × Room (length (wayOrNone (nominated types (ones mask)) pair)) (now found) ⌝ }
+    ensures { λ r. ⌜ JoinedWays kind stake (wayOrNone (nominated types (ones mask)) pair) (now (found .entry)) (now (majors .entry)) (now (found .exit)) (now (majors .exit)) ⌝ }
 {
     if !ways::nominates(types, u32::count_ones(mask)) {
         return;
     }
-    find_way(size, hit, kind, stake, found);
+    find_way(pair, kind, stake, found, majors);
 }
 
-// Adds the figures of the ways that begin with the groups in the mask, which select `size` numbers and match `hit` of them, where `left`
-// groups are left to take or to leave.
+// Adds the figures of the ways that begin with the groups in the mask, where `left` groups are left to take or to leave. Whether any is a way
+// is asked only where that can save more than the count of ones costs.
 fn find_from(
     left: usize,
     mask: u32,
-    size: u32,
-    hit: u32,
+    pair: u32,
     kind: Kind,
     stake: u32,
     types: u8,
-    sizes: [u8; 8],
-    hits: [u8; 8],
+    groups: &[u32; 9],
     found: &mut [u64; 3],
+    majors: &mut [u64; 250],
 )
-    requires { ⌜ Place left mask × Carried left mask size sizes × Carried left mask hit hits × Room (figuresFrom types (wayFound kind stake) sizes hits left mask) (now found) ⌝ }
-    ensures { λ r. ⌜ Joined (figuresFrom types (wayFound kind stake) sizes hits left mask) (now (found .entry)) (now (found .exit)) ⌝ }
+    requires { ⌜ Place left mask × Groups (now groups) × Carries left mask pair (now groups) × Room (length (waysFrom types left mask)) (now found) ⌝ }
+    ensures { λ r. ⌜ JoinedWays kind stake (pairsFrom types (now (groups .entry)) left mask) (now (found .entry)) (now (majors .entry)) (now (found .exit)) (now (majors .exit)) ⌝ }
 {
     if left == 0 {
-        find_mask(mask, size, hit, kind, stake, types, found);
+        find_mask(mask, pair, kind, stake, types, found, majors);
+        return;
+    }
+    if 3 <= left && !ways::can_nominate(types, mask, left) {
         return;
     }
     let after = left - 1;
-    let more = size + sizes[after] as u32;
-    let matched = hit + hits[after] as u32;
+    find_from(
+        after,
+        mask * 2,
+        pair,
+        kind,
+        stake,
+        types,
+        groups,
+        found,
+        majors,
+    );
+    let more = pair + groups[left];
     find_from(
         after,
         mask * 2 + 1,
         more,
-        matched,
         kind,
         stake,
         types,
-        sizes,
-        hits,
+        groups,
         found,
-    );
-    find_from(
-        after,
-        mask * 2,
-        size,
-        hit,
-        kind,
-        stake,
-        types,
-        sizes,
-        hits,
-        found,
+        majors,
     );
 }
 
-// What a ticket's ways win, from the sizes and hits of its groups.
-pub fn ticket_prizes(terms: Terms, sizes: [u8; 8], hits: [u8; 8]) -> Found
-    requires { ⌜ Sound terms ⌝ }
-    ensures { λ r. ⌜ r ≡ foundOf terms sizes hits ⌝ }
+// What a ticket's ways win, from the table of its groups, where `before` major prizes were found before it. Its own are stored behind them.
+pub fn ticket_prizes(terms: Terms, groups: &[u32; 9], before: u64, majors: &mut [u64; 250]) -> Found
+    requires { ⌜ Sound terms × Groups (now groups) × Counting before ⌝ }
+    ensures { λ r. ⌜ FoundWith terms (groupSizes (now (groups .entry))) (groupHits (now (groups .entry))) before (now (majors .entry)) r (now (majors .exit)) ⌝ }
 {
     let kind = terms.kind;
-    let groups = terms.groups;
-    let mut found = [0u64; 3];
+    let count = terms.groups;
+    let mut found = [0u64, 0u64, before];
     find_from(
-        groups as usize,
-        0,
+        count as usize,
         0,
         0,
         kind,
         terms.stake,
         terms.types,
-        sizes,
-        hits,
+        groups,
         &mut found,
+        majors,
     );
     Found {
-        prizes: found[0],
-        majors: found[1],
-        full: found[2],
+        sure: found[0],
+        full: found[1],
+        majors: found[2],
     }
 }

@@ -1,134 +1,167 @@
--- `rules::found::find_from`, which calls itself, meets its contract: its two calls add one after the other what the masks that begin with its
--- own add together. The measure is the number of groups left.
-use Prim.Native.Nat.{ℕ, _-_, _≤_, _<_}
-use mathlib.Core.Path.{_≡_, subst}
+-- `rules::found::find_from`, which calls itself, meets its contract: its two calls add one after the other what the ways that begin with its mask
+-- add together, and it calls none where there is no such way. The measure is the number of groups left.
+use Prim.Native.Nat.{ℕ, _+_, _*_, _-_, _<_}
+use mathlib.Core.Path.{_≡_, sym, ap, _∙_, subst}
+use mathlib.Core.List.{List, _++_, map}
 use native.Mathlib.Omega.{arith}
 use native.Mathlib.Nat.{pos-of-ne-zero}
-use lib.ListN.{getD}
+use lib.ListN.{length, drop, length-map}
 use lib.Count.{ones}
-use mir.Val.{Fits}
-use mir.Syntax.{w8}
-use borrow.Author.Needs.{needs}
+use borrow.Author.Tests.{not-true}
 use borrow.Fn.Kinds.{In}
 use borrow.Fn.PlainCycle.{Measures, is, falls, and}
-use Rattle.rules.specs.Ways.{nominated}
-use Rattle.rules.specs.Passes.{Figures, orNone, figuresFrom, Room, wayFound}
-use Rattle.rules.proofs.WayLaws.{mask-lt, place-end, place-with, place-without, carried-with, carried-without}
-use Rattle.rules.proofs.FigureLaws.{figuresFrom-end, room-with, room-without, joined-both}
+use Rattle.rules.specs.Ways.{nominated, taken}
+use Rattle.rules.specs.Passes.{waysFrom}
+use Rattle.rules.specs.Found.{pairsFrom, wayOrNone, Room, JoinedWays}
+use Rattle.rules.proofs.WayLaws.{mask-lt, place-end, place-with, place-without}
+use Rattle.rules.proofs.WalkLaws.{map-end, map-step, none-nominable}
+use Rattle.rules.proofs.FoundLaws.{no-ways, ways-both, room-first, room-second, carries-end, group-small, carries-with, carries-without}
 use Rattle.rules.proofs.found.find_from.Reads as find-from
 use Rattle.rules.proofs.found.find_from.Kinds as kinds
 use Rattle.rules.proofs.found.+find_from.Lts-find_from as lts
 use Rattle.rules.proofs.found.find_mask.Reads as find-mask
+use Rattle.rules.proofs.ways.can_nominate.Reads as can-nominate
 use Rattle.rules.proofs.found.+find_from.{statement}
 use Rattle.rules.proofs.found.+find_from.Tie.{close}
 
-abbrev μ : Measures 1 kinds.ps ℕ
+abbrev μ : Measures 3 kinds.ps ℕ
 μ κs a = a .0
 
+-- room for the ways is room for what is found of them
+room-pairs : (types left m : ℕ) (table : List ℕ) {found : List ℕ} → Room (length (waysFrom types left m)) found
+    → Room (length (pairsFrom types table left m)) found
+room-pairs types left m table {found} r =
+    subst (λ n. Room n found) (sym (length-map (waysFrom types left m) (λ k. taken k (drop 1 table)))) r
+
+room-ways : (types left m : ℕ) (table : List ℕ) {found : List ℕ} → Room (length (pairsFrom types table left m)) found
+    → Room (length (waysFrom types left m)) found
+room-ways types left m table {found} r =
+    subst (λ n. Room n found) (length-map (waysFrom types left m) (λ k. taken k (drop 1 table))) r
+
 module _ (t : ℕ) where
-  abbrev given : In 1 kinds.ps
-  given = and 1 kinds.ps (is 1 kinds.ps μ t) find-from.Pre
+  abbrev given : In 3 kinds.ps
+  given = and 3 kinds.ps (is 3 kinds.ps μ t) find-from.Pre
 
   abbrev called : lts.Claims
-  called = (find-mask.Asked, find-mask.Learnt, and 1 kinds.ps (falls 1 kinds.ps _<_ μ t) find-from.Pre, find-from.Post)
+  called =
+      (find-mask.Asked, find-mask.Learnt, can-nominate.Asked, can-nominate.Learnt, and 3 kinds.ps (falls 3 kinds.ps _<_ μ t) find-from.Pre, find-from.Post)
 
-  -- the elements of the sizes and of the hits are bytes
-  size-byte : (c : lts.Else1 called given find-from.Post) → getD (c .before .args .t8) (c .before .args .left - 1) 0 ≤ 255
-  size-byte c =
-      let b : Fits w8 (getD (c .before .args .t8) (c .before .args .left - 1) 0) = search needs in
-      omega arith
-
-  hit-byte : (c : lts.Else1 called given find-from.Post) → getD (c .before .args .t9) (c .before .args .left - 1) 0 ≤ 255
-  hit-byte c =
-      let b : Fits w8 (getD (c .before .args .t9) (c .before .args .left - 1) 0) = search needs in
-      omega arith
-
-  -- where no group is left, the figures are the mask's own
+  -- where no group is left, the mask is the only way, or there is none
   own : (c : lts.Then1 called given find-from.Post)
-      → figuresFrom (c .before .args .types) (wayFound (c .before .args .kind) (c .before .args .stake)) (c .before .args .t8) (c .before .args .t9) (c .before .args .left) (c .before .args .mask)
-      ≡ orNone (nominated (c .before .args .types) (ones (c .before .args .mask))) (wayFound (c .before .args .kind) (c .before .args .stake) (c .before .args .size) (c .before .args .hit))
+      → pairsFrom (c .before .args .types) (c .before .args .groups .now) (c .before .args .left) (c .before .args .mask)
+      ≡ wayOrNone (nominated (c .before .args .types) (ones (c .before .args .mask))) (c .before .args .pair)
   own c =
       let a = c .before .args in
-      let pre = c .before .pre .1 in
-      figuresFrom-end (a .types) (wayFound (a .kind) (a .stake)) (a .t8) (a .t9) (a .mask) (c .if1 .taken) (pre .1) (pre .2)
+      map-end (λ k. taken k (drop 1 (a .groups .now))) (a .types) (a .mask) (c .if1 .taken)
+      ∙ ap (wayOrNone (nominated (a .types) (ones (a .mask)))) (sym (carries-end (c .if1 .taken) (c .before .pre .1 .2)))
+
+  -- the ways that leave the next group, and then those that take it
+  parts : (c : lts.Else1 called given find-from.Post)
+      → pairsFrom (c .before .args .types) (c .before .args .groups .now) (c .before .args .left) (c .before .args .mask)
+      ≡ pairsFrom (c .before .args .types) (c .before .args .groups .now) (c .before .args .left - 1) (c .before .args .mask * 2)
+      ++ pairsFrom (c .before .args .types) (c .before .args .groups .now) (c .before .args .left - 1) (c .before .args .mask * 2 + 1)
+  parts c =
+      let a = c .before .args in
+      map-step (λ k. taken k (drop 1 (a .groups .now))) (a .types) (a .mask) (c .if1 .left)
+
+  both-room : (c : lts.Else1 called given find-from.Post)
+      → Room (length (pairsFrom (c .before .args .types) (c .before .args .groups .now) (c .before .args .left - 1) (c .before .args .mask * 2)
+      ++ pairsFrom (c .before .args .types) (c .before .args .groups .now) (c .before .args .left - 1) (c .before .args .mask * 2 + 1))) (c .before .args .found .now)
+  both-room c =
+      let a = c .before .args in
+      subst (λ (l : List ℕ). Room (length l) (a .found .now)) (parts c)
+      (room-pairs (a .types) (a .left) (a .mask) (a .groups .now) (c .before .pre .1 .3))
 
   find-mask-requires : lts.Need-find-mask-requires called given find-from.Post
   find-mask-requires c κs =
-      let start = c .before .before in
-      let pre = start .pre .1 in (
-        place-end (c .before .if1 .taken) (pre .0),
-        subst (λ (f : Figures). Room f (start .args .found .now)) (own (c .before)) (pre .3),
+      let then = c .before .before in
+      let a = then .before .args in
+      let pre = then .before .pre .1 in (
+        place-end (then .if1 .taken) (pre .0),
+        subst (λ (l : List ℕ). Room (length l) (a .found .now)) (own then)
+            (room-pairs (a .types) (a .left) (a .mask) (a .groups .now) (pre .3)),
       )
 
   returns : lts.Need-returns called given find-from.Post
-  returns c = rw (own (c .before .before)) (c .find-mask .ensures)
+  returns c = rw (own (c .before .before .before)) (c .find-mask .ensures)
+
+  can-nominate-requires : lts.Need-can-nominate-requires called given find-from.Post
+  can-nominate-requires c κs = c .before .before .pre .1 .0
+
+  returns-2 : lts.Need-returns-2 called given find-from.Post
+  returns-2 c =
+      let asked = c .before in
+      let a = asked .before .before .before .args in
+      let none = none-nominable (a .types) (a .left) (a .mask) (sym (asked .can-nominate .ensures) ∙ not-true _ (c .if3 .taken)) in
+      subst (λ (l : List ℕ). JoinedWays (a .kind) (a .stake) (map (λ k. taken k (drop 1 (a .groups .now))) l) (a .found .now) (a .majors .now) (a .found .now) (a .majors .now)) (sym none)
+      (no-ways (a .kind) (a .stake) (a .found .now) (a .majors .now))
 
   sub-after : lts.Need-sub-after called given find-from.Post
-  sub-after c = pos-of-ne-zero (c .if1 .left)
-
-  array-read-more : lts.Need-array-read-more called given find-from.Post
-  array-read-more c = omega (arith, c .before .pre .1 .0 .groups, pos-of-ne-zero (c .if1 .left))
-
-  cast-more : lts.Need-cast-more called given find-from.Post
-  cast-more c = search needs
-
-  add-more : lts.Need-add-more called given find-from.Post
-  add-more c = omega (arith, size-byte c, c .before .pre .1 .1 .small)
-
-  array-read-matched : lts.Need-array-read-matched called given find-from.Post
-  array-read-matched c = omega (arith, c .before .pre .1 .0 .groups, pos-of-ne-zero (c .if1 .left))
-
-  cast-matched : lts.Need-cast-matched called given find-from.Post
-  cast-matched c = search needs
-
-  add-matched : lts.Need-add-matched called given find-from.Post
-  add-matched c = omega (arith, hit-byte c, c .before .pre .1 .2 .small)
+  sub-after c = pos-of-ne-zero (c .before .if1 .left)
 
   mul-find-from : lts.Need-mul-find-from called given find-from.Post
-  mul-find-from c = omega (arith, mask-lt (c .before .pre .1 .0))
-
-  add-find-from : lts.Need-add-find-from called given find-from.Post
-  add-find-from c = omega (arith, mask-lt (c .before .pre .1 .0))
+  mul-find-from c = omega (arith, mask-lt (c .before .before .pre .1 .0))
 
   find-from-requires : lts.Need-find-from-requires called given find-from.Post
   find-from-requires c κs =
-      let some = c .before .if1 .left in
-      let start = c .before .before in
-      let a = start .args in
-      let pre = start .pre in (
-        omega (arith, pos-of-ne-zero some, pre .0),
-        (
-          place-with some (pre .1 .0),
-          carried-with some (pre .1 .0 .groups) (pre .1 .1) (size-byte (c .before)),
-          carried-with some (pre .1 .0 .groups) (pre .1 .2) (hit-byte (c .before)),
-          room-with (a .types) (wayFound (a .kind) (a .stake)) (a .t8) (a .t9) (a .mask) some (pre .1 .3),
-        ),
-      )
-
-  mul-find-from-2 : lts.Need-mul-find-from-2 called given find-from.Post
-  mul-find-from-2 c = omega (arith, mask-lt (c .before .before .before .pre .1 .0))
-
-  find-from-requires-2 : lts.Need-find-from-requires-2 called given find-from.Post
-  find-from-requires-2 c κs =
-      let some = c .before .before .before .if1 .left in
-      let start = c .before .before .before .before in
+      let else = c .before .before .before in
+      let some = else .if1 .left in
+      let start = else .before in
       let a = start .args in
       let pre = start .pre in (
         omega (arith, pos-of-ne-zero some, pre .0),
         (
           place-without some (pre .1 .0),
-          carried-without some (pre .1 .1),
-          carried-without some (pre .1 .2),
-          room-without (a .types) (wayFound (a .kind) (a .stake)) (a .t8) (a .t9) (a .mask) some (c .before .find-from .ensures) (pre .1 .3),
+          pre .1 .1,
+          carries-without some (pre .1 .0 .groups) (pre .1 .2),
+          room-ways (a .types) (a .left - 1) (a .mask * 2) (a .groups .now)
+              (room-first (pairsFrom (a .types) (a .groups .now) (a .left - 1) (a .mask * 2)) (pairsFrom (a .types) (a .groups .now) (a .left - 1) (a .mask * 2 + 1)) (both-room else)),
         ),
       )
 
-  returns-2 : lts.Need-returns-2 called given find-from.Post
-  returns-2 c =
-      let first = c .before .before in
-      let a = first .before .before .before .args in
-      joined-both (a .types) (wayFound (a .kind) (a .stake)) (a .t8) (a .t9) (a .mask) (first .before .before .if1 .left)
-      (first .find-from .ensures) (c .find-from2 .ensures)
+  mul-more : lts.Need-mul-more called given find-from.Post
+  mul-more c = omega (arith, c .before .before .before .before .before .pre .1 .0 .groups)
+
+  element-copy-out-more : lts.Need-element-copy-out-more called given find-from.Post
+  element-copy-out-more c = omega (arith, c .before .before .before .before .before .pre .1 .0 .groups)
+
+  add-more : lts.Need-add-more called given find-from.Post
+  add-more c =
+      let else = c .before .before .before .before .before in
+      let start = else .before in
+      omega (arith, start .pre .1 .2 .small, group-small (start .args .groups .now) (start .pre .1 .1) (start .args .left), pos-of-ne-zero (else .if1 .left))
+
+  mul-find-from-2 : lts.Need-mul-find-from-2 called given find-from.Post
+  mul-find-from-2 c = omega (arith, mask-lt (c .before .before .before .before .before .before .pre .1 .0))
+
+  add-find-from : lts.Need-add-find-from called given find-from.Post
+  add-find-from c = omega (arith, mask-lt (c .before .before .before .before .before .before .pre .1 .0))
+
+  find-from-requires-2 : lts.Need-find-from-requires-2 called given find-from.Post
+  find-from-requires-2 c κs =
+      let first = c .before .before .before in
+      let else = first .before .before .before .before in
+      let some = else .if1 .left in
+      let start = else .before in
+      let a = start .args in
+      let pre = start .pre in (
+        omega (arith, pos-of-ne-zero some, pre .0),
+        (
+          place-with some (pre .1 .0),
+          pre .1 .1,
+          carries-with some (pre .1 .0 .groups) (pre .1 .1) (pre .1 .2),
+          room-ways (a .types) (a .left - 1) (a .mask * 2 + 1) (a .groups .now)
+              (room-second (a .kind) (a .stake) (pairsFrom (a .types) (a .groups .now) (a .left - 1) (a .mask * 2)) (pairsFrom (a .types) (a .groups .now) (a .left - 1) (a .mask * 2 + 1)) (first .find-from .ensures) (both-room else)),
+        ),
+      )
+
+  returns-3 : lts.Need-returns-3 called given find-from.Post
+  returns-3 c =
+      let first = c .before .before .before .before in
+      let else = first .before .before .before .before in
+      let a = else .before .args in
+      rw (parts else)
+      (ways-both (a .kind) (a .stake) (pairsFrom (a .types) (a .groups .now) (a .left - 1) (a .mask * 2)) (pairsFrom (a .types) (a .groups .now) (a .left - 1) (a .mask * 2 + 1)) (first .find-from .ensures) (c .find-from2 .ensures))
 
 pub +find-from-spec : {M : Type 1} → statement M
 +find-from-spec =
@@ -136,16 +169,15 @@ pub +find-from-spec : {M : Type 1} → statement M
     lts.spec (called t) (given t) find-from.Post
     (find-mask-requires t)
     (returns t)
-    (sub-after t)
-    (array-read-more t)
-    (cast-more t)
-    (add-more t)
-    (array-read-matched t)
-    (cast-matched t)
-    (add-matched t)
-    (mul-find-from t)
-    (add-find-from t)
-    (find-from-requires t)
-    (mul-find-from-2 t)
-    (find-from-requires-2 t)
+    (can-nominate-requires t)
     (returns-2 t)
+    (sub-after t)
+    (mul-find-from t)
+    (find-from-requires t)
+    (mul-more t)
+    (element-copy-out-more t)
+    (add-more t)
+    (mul-find-from-2 t)
+    (add-find-from t)
+    (find-from-requires-2 t)
+    (returns-3 t)

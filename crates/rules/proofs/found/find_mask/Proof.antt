@@ -2,11 +2,12 @@
 use mathlib.Core.Path.{_≡_, sym, _∙_, subst}
 use mathlib.Core.Bool.{true, false}
 use lib.Count.{ones, ones-le}
+use lib.ListN.{length}
 use borrow.Author.Tests.{not-true, not-false}
 use Rattle.rules.specs.Ways.{nominated}
-use Rattle.rules.specs.Passes.{orNone, Room, wayFound}
+use Rattle.rules.specs.Found.{Room, wayOrNone}
 use Rattle.rules.proofs.WayLaws.{mask-lt}
-use Rattle.rules.proofs.FigureLaws.{none-joined}
+use Rattle.rules.proofs.FoundLaws.{no-ways}
 use Rattle.rules.proofs.found.find_mask.Statement.{statement}
 use Rattle.rules.proofs.found.find_mask.Tie as tie
 
@@ -18,7 +19,7 @@ returns c =
     let args = c .before .before .args in
     let none : nominated (args .types) (ones (args .mask)) ≡ false =
     sym (c .before .nominates .ensures) ∙ not-true _ (c .if1 .taken) in
-    rw none (none-joined (wayFound (args .kind) (args .stake) (args .size) (args .hit)) (args .found .now))
+    rw none (no-ways (args .kind) (args .stake) (args .found .now) (args .majors .now))
 
 -- the mask is a way
 a-way : (c : tie.Else1) → nominated (c .before .before .args .types) (ones (c .before .before .args .mask)) ≡ true
@@ -26,12 +27,12 @@ a-way c = sym (c .before .nominates .ensures) ∙ not-false _ (c .if1 .left)
 
 find-way-requires : tie.Need-find-way-requires
 find-way-requires c κs =
-    let start = c .before .before .before in
-    let args = start .args in
-    subst (λ t. Room (orNone t (wayFound (args .kind) (args .stake) (args .size) (args .hit))) (args .found .now)) (a-way (c .before)) (start .pre .1)
+    let else = c .before .before in
+    let start = else .before .before in
+    subst (λ t. Room (length (wayOrNone t (start .args .pair))) (start .args .found .now)) (a-way else) (start .pre .1)
 
 returns-2 : tie.Need-returns-2
-returns-2 c = rw (a-way (c .before .before)) (c .find-way .ensures)
+returns-2 c = rw (a-way (c .before .before .before)) (c .find-way .ensures)
 
 pub find-mask-spec : {M : Type 1} → statement M
 find-mask-spec = tie.close (tie.spec nominates-requires returns find-way-requires returns-2)

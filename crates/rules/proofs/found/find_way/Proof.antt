@@ -1,42 +1,86 @@
--- `rules::found::find_way` meets its contract: what it adds are the way's figures.
-use mathlib.Core.Path.{_≡_, ap, _∙_, subst, sym}
-use mathlib.Core.Bool.{cond}
+-- `rules::found::find_way` meets its contract: a minor prize is sure as it is; of a major one the floor is sure, and the prize is stored.
+use mathlib.Core.Path.{_≡_, sym, ap, _∙_, subst}
+use mathlib.Core.Bool.{true, false}
+use Prim.Native.Nat.{_≤_}
+use native.Mathlib.Omega.{arith}
 use borrow.Author.Needs.{needs}
-use Rattle.rules.specs.Prize.{isMajor}
-use Rattle.rules.specs.Passes.{Figures, figures, Room, wayFound}
-use Rattle.rules.proofs.FigureLaws.{same-figures}
+use borrow.Author.Tests.{not-true, not-false, leb-false}
+use Rattle.rules.specs.Prize.{majorFloor, isMajor}
+use lib.Dec.{eqb}
+use Rattle.rules.specs.Found.{sizeIn, hitsIn}
+use Rattle.rules.proofs.WayLaws.{tally-le}
+use Rattle.rules.proofs.FoundLaws.{way-minor, way-major}
 use Rattle.rules.proofs.found.find_way.Statement.{statement}
 use Rattle.rules.proofs.found.find_way.Tie as tie
 
 prize-of-requires : tie.Need-prize-of-requires
 prize-of-requires c κs = search needs
 
-major-cents-requires : tie.Need-major-cents-requires
-major-cents-requires c κs = search needs
-
 full-match-requires : tie.Need-full-match-requires
 full-match-requires c κs = search needs
 
-same : (c : tie.After-full-match)
-    → figures (c .before .before .prize-of .result) (c .before .major-cents .result) (c .full-match .result)
-    ≡ wayFound (c .before .before .before .args .kind) (c .before .before .before .args .stake) (c .before .before .before .args .size) (c .before .before .before .args .hit)
-same c =
-    let a = c .before .before .before .args in
-    let cents = c .before .before .prize-of in
-    let major = c .before .major-cents in
-    same-figures (figures (cents .result) (major .result) (c .full-match .result)) (wayFound (a .kind) (a .stake) (a .size) (a .hit))
-    (cents .ensures)
-    (major .ensures ∙ ap (λ n. cond (isMajor n) n 0) (cents .ensures))
-    (c .full-match .ensures)
+is-major-requires : tie.Need-is-major-requires
+is-major-requires c κs = search needs
+
+-- one match at the most
+one : (c : tie.After-full-match) → c .full-match .result ≤ 1
+one c = subst (λ n. n ≤ 1) (sym (c .full-match .ensures)) (tally-le (eqb (hitsIn (c .before .before .args .pair)) (sizeIn (c .before .before .args .pair))))
+
+-- whether the prize is a major one, by the code's test
+minor : (c : tie.Then1) → isMajor (c .before .before .before .prize-of .result) ≡ false
+minor c = sym (c .before .is-major .ensures) ∙ not-true _ (c .if1 .taken)
+
+major : (c : tie.Else1) → isMajor (c .before .before .before .prize-of .result) ≡ true
+major c = sym (c .before .is-major .ensures) ∙ not-false _ (c .if1 .left)
 
 add-requires : tie.Need-add-requires
 add-requires c κs =
-    let start = c .before .before .before .before in
-    subst (λ (f : Figures). Room f (start .args .found .now)) (sym (same (c .before))) (start .pre)
+    let full = c .before .before .before in
+    let start = full .before .before in
+    let small = leb-false majorFloor (full .before .prize-of .result) (minor (c .before)) in
+    (omega (arith, start .pre .sure), omega (arith, start .pre .full, one full))
 
 returns : tie.Need-returns
-returns c = rw (← same (c .before .before)) (c .add .ensures)
+returns c =
+    let then = c .before .before in
+    let full = then .before .before in
+    let found = full .before .prize-of in
+    let args = full .before .before .args in
+    way-minor (args .kind) (args .stake) (args .pair) (subst (λ n. isMajor n ≡ false) (found .ensures) (minor then))
+    (rw (← found .ensures, ← full .full-match .ensures) (c .add .ensures (args .majors .now)))
+
+add-requires-2 : tie.Need-add-requires-2
+add-requires-2 c κs =
+    let full = c .before .before .before in
+    let start = full .before .before in
+    (omega (arith, start .pre .sure), omega (arith, start .pre .full, one full))
+
+store-requires : tie.Need-store-requires
+store-requires c κs =
+    let added = c .before .before in
+    let start = added .before .before .before .before .before .before in
+    omega (arith, start .pre .majors, added .add2 .ensures (start .args .majors .now) .count)
+
+returns-2 : tie.Need-returns-2
+returns-2 c =
+    let added = c .before .before .before in
+    let else = added .before .before in
+    let full = else .before .before in
+    let found = full .before .prize-of in
+    let args = full .before .before .args in
+    let sure = rw (full .full-match .ensures) at (added .add2 .ensures (args .majors .now)) in
+    let stored = rw (found .ensures) at (c .store .ensures) in
+    way-major (args .kind) (args .stake) (args .pair) (subst (λ n. isMajor n ≡ true) (found .ensures) (major else)) sure stored
 
 pub find-way-spec : {M : Type 1} → statement M
 find-way-spec =
-    tie.close (tie.spec prize-of-requires major-cents-requires full-match-requires add-requires returns)
+    tie.close
+    (tie.spec
+    prize-of-requires
+    full-match-requires
+    is-major-requires
+    add-requires
+    returns
+    add-requires-2
+    store-requires
+    returns-2)

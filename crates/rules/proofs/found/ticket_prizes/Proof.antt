@@ -1,8 +1,7 @@
--- `rules::found::ticket_prizes` meets its contract: the walk starts with no group taken and an empty table, and finds what the rule names.
+-- `rules::found::ticket_prizes` meets its contract: the walk starts with no group taken, and finds what the rule names.
 use borrow.Author.Needs.{needs}
-use Rattle.rules.proofs.WayLaws.{start-place, start-carried}
-use Rattle.rules.proofs.FigureLaws.{start-room}
-use Rattle.rules.proofs.FoundLaws.{found-walk-small, found-joined}
+use Rattle.rules.proofs.WayLaws.{start-place}
+use Rattle.rules.proofs.FoundLaws.{start-carries, start-room, found-with}
 use Rattle.rules.proofs.found.ticket_prizes.Statement.{statement}
 use Rattle.rules.proofs.found.ticket_prizes.Tie as tie
 
@@ -11,27 +10,36 @@ cast-find-from c = search needs
 
 find-from-requires : tie.Need-find-from-requires
 find-from-requires c κs =
-    let a = c .before .args in (
-      start-place (c .before .pre .groups),
-      start-carried (a .terms .groups) (a .sizes),
-      start-carried (a .terms .groups) (a .hits),
-      start-room (found-walk-small (a .terms) (a .sizes) (a .hits) (c .before .pre)),
+    let start = c .before .before in
+    let a = start .args in (
+      start-place (start .pre .0 .groups),
+      start .pre .1,
+      start-carries (a .terms .groups) (a .groups .now),
+      start-room (a .terms .groups) (a .terms .types) (a .before) (start .pre .0 .groups) (start .pre .2 .few),
     )
 
-array-read-t12 : tie.Need-array-read-t12
-array-read-t12 c = search needs
+array-read-t14 : tie.Need-array-read-t14
+array-read-t14 c = search needs
 
-array-read-t15 : tie.Need-array-read-t15
-array-read-t15 c = search needs
+array-read-t17 : tie.Need-array-read-t17
+array-read-t17 c = search needs
 
-array-read-t18 : tie.Need-array-read-t18
-array-read-t18 c = search needs
+array-read-t20 : tie.Need-array-read-t20
+array-read-t20 c = search needs
 
 returns : tie.Need-returns
 returns c =
-    let a = c .before .before .args in
-    found-joined (a .terms) (a .sizes) (a .hits) (c .find-from .ensures)
+    let start = c .before .before .before in
+    let a = start .args in
+    found-with (a .terms) (a .groups .now) (start .pre .1) (a .before) (c .find-from .ensures)
 
 pub ticket-prizes-spec : {M : Type 1} → statement M
 ticket-prizes-spec =
-    tie.close (tie.spec cast-find-from find-from-requires array-read-t12 array-read-t15 array-read-t18 returns)
+    tie.close
+    (tie.spec
+    cast-find-from
+    find-from-requires
+    array-read-t14
+    array-read-t17
+    array-read-t20
+    returns)
