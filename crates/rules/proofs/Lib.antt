@@ -1,5 +1,6 @@
 pub mod KeepLaws
 pub mod WayLaws
+pub mod WalkLaws
 pub mod MarkLaws
 pub mod PriceLaws
 pub mod CheckLaws

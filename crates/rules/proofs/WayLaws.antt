@@ -96,13 +96,13 @@ upTo-suc f n =
 
 -- the masks that begin with m: the lower half leaves the next group, and the upper half takes it
 module _ (m n : ℕ) where
-  lower : m * 2 * 2 ^ n ≡ m * 2 ^ suc n
+  pub lower : m * 2 * 2 ^ n ≡ m * 2 ^ suc n
   lower = mul-right-comm m 2 (2 ^ n) ∙ mul-assoc m (2 ^ n) 2 ∙ ap (λ k. m * k) (sym (pow-suc 2 n))
 
-  middle : (m * 2 + 1) * 2 ^ n ≡ m * 2 * 2 ^ n + 2 ^ n
+  pub middle : (m * 2 + 1) * 2 ^ n ≡ m * 2 * 2 ^ n + 2 ^ n
   middle = add-mul (m * 2) 1 (2 ^ n) ∙ ap (λ k. m * 2 * 2 ^ n + k) (one-mul (2 ^ n))
 
-  upper : m * 2 ^ suc n + 2 ^ suc n ≡ (m * 2 + 1) * 2 ^ n + 2 ^ n
+  pub upper : m * 2 ^ suc n + 2 ^ suc n ≡ (m * 2 + 1) * 2 ^ n + 2 ^ n
   upper = omega (arith, lower, middle, pow-suc 2 n)
 
 module _ (types : ℕ) (f : ℕ → ℕ) where
@@ -240,7 +240,7 @@ pub place-end : {left m : ℕ} → left ≡ 0 → Place left m → Place 0 m
 place-end {m = m} none p = subst (λ k. Place k m) none p
 
 module _ {left : ℕ} (some : left ≡ 0 → ⊥) where
-  next : suc (left - 1) ≡ left
+  pub next : suc (left - 1) ≡ left
   next = omega (arith, pos-of-ne-zero some)
 
   doubled : left ≤ 8 → 2 ^ (8 - (left - 1)) ≡ 2 ^ (8 - left) * 2

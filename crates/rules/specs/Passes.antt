@@ -2,8 +2,8 @@
 -- round to the next. The laws in proofs/ join these to the definitions above: no prize is ever stored.
 use Prim.Native.Nat.{ℕ, zero, suc, _+_, _*_, _-_, _/_, _%_, _^_, _<_, max}
 use mathlib.Core.Path.{_≡_}
-use mathlib.Core.Bool.{Bool, cond, _&&_}
-use mathlib.Core.List.{List, [], _∷_, map}
+use mathlib.Core.Bool.{Bool, cond, not, _&&_}
+use mathlib.Core.List.{List, [], _∷_, _++_, map}
 use lib.Dec.{ltb, leb, eqb}
 use lib.ListN.{length, getD}
 use lib.Count.{ones}
@@ -16,6 +16,17 @@ use Rattle.rules.specs.declared.terms.Terms.{Terms}
 use Rattle.rules.specs.declared.found.Found.{Found}
 use Rattle.rules.specs.declared.cut.Cut.{Cut}
 use Rattle.rules.specs.declared.sums.Sums.{Sums}
+
+-- The ways that begin with the groups in a mask, where so many groups are left to take or to leave. Leaving comes first, so that the masks
+-- rise.
+unfoldable pub waysFrom : ℕ → ℕ → ℕ → List ℕ
+waysFrom types zero mask = cond (nominated types (ones mask)) (mask ∷ []) []
+waysFrom types (suc left) mask = waysFrom types left (mask * 2) ++ waysFrom types left (mask * 2 + 1)
+
+-- Whether some number of groups, from so many taken to those with all that are left, has its bit in the types byte: bit k of the byte's
+-- double is that of k groups.
+unfoldable pub nominable : ℕ → ℕ → ℕ → Bool
+nominable types taken left = not (eqb (types * 2 / 2 ^ taken % 2 ^ (left + 1)) 0)
 
 -- A figure summed over the ways that begin with a choice of groups, the mask m, where so many groups are left to take or to leave.
 unfoldable pub sumFrom : ℕ → (ℕ → ℕ) → ℕ → ℕ → ℕ

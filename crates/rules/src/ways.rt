@@ -9,7 +9,7 @@ ghost use Rattle.rules.specs.Lists.{keep};
 ghost use Rattle.rules.specs.Kinds.{within};
 ghost use Rattle.rules.specs.Ways.{nominated, ways, waySizes};
 ghost use Rattle.rules.specs.Settle.{jackpotBy};
-ghost use Rattle.rules.specs.Passes.{sumFrom, sizeBetween};
+ghost use Rattle.rules.specs.Passes.{nominable, sumFrom, sizeBetween};
 ghost use Rattle.rules.specs.Bounds.{Grouped, Place, Carried};
 
 // Whether the types byte nominates combinations of so many groups.
@@ -22,6 +22,15 @@ pub fn nominates(types: u8, groups: u32) -> bool
     } else {
         (types >> (groups - 1)) % 2 == 1
     }
+}
+
+// Whether some way begins with the groups in the mask, where `left` groups are left to take or to leave.
+pub fn can_nominate(types: u8, mask: u32, left: usize) -> bool
+    requires { ⌜ Place left mask ⌝ }
+    ensures { λ r. ⌜ r ≡ nominable types (ones mask) left ⌝ }
+{
+    let counts = (types as u32) * 2 >> u32::count_ones(mask);
+    counts % (2 << left) != 0
 }
 
 // 1 for a mask of groups that is a way of lo to hi numbers, and 0 for another. It selects `size` numbers.
