@@ -1,16 +1,18 @@
 -- How the groups' figures change when a mark is appended, and their bounds: one group's figure grows by one, or none does.
 use mathlib.Core.Path.{_≡_, refl, sym, ap, _∙_}
 use mathlib.Core.List.{List, [], _∷_, _++_, map, map-append}
-use Prim.Native.Nat.{ℕ, zero, suc, _+_, _-_, _≤_, _<_}
+use Prim.Native.Nat.{ℕ, zero, suc, _+_, _*_, _-_, _/_, _%_, _^_, _≤_, _<_}
 use native.Mathlib.Decide.{decLt, ℕ-discrete}
+use native.Mathlib.Nat.{div-one, zero-div, pow-suc, pow-succ', pow-le-pow-right, lt-of-lt-of-le, div-div-eq-div-mul}
 use native.Mathlib.Numerals.{add-one}
+use lib.Pow.{low, high}
 use native.Mathlib.Omega.{arith}
 use lib.Dec.{eqb}
-use lib.ListN.{length, getD, set, take, length-append, length-set, List·getD-eq-default, replicate}
-use lib.Seq.{ext-getD, getD-set-same, getD-set-other, take-suc}
+use lib.ListN.{length, getD, set, take, drop, length-append, length-set, List·getD-eq-default, replicate}
+use lib.Seq.{ext-getD, getD-set-same, getD-set-other, take-suc, drop-cons}
 use borrow.Author.Tests.{eq-eqb, ne-eqb}
 use Rattle.rules.specs.Lists.{keep}
-use Rattle.rules.specs.Ways.{markOf, sizeOf, byGroup}
+use Rattle.rules.specs.Ways.{markOf, sizeOf, byGroup, sizeWord}
 use Rattle.rules.proofs.KeepLaws.{keep-append, length-keep-le}
 
 -- a mark of the group adds one to its size
@@ -115,3 +117,31 @@ no-mark-beyond marks h = sym (List·getD-eq-default (0 ∷ marks) 0 h)
 pub hits-step : (marks balls : List ℕ) (i : ℕ) → i < length balls →
     map (markOf marks) (take (i + 1) balls) ≡ map (markOf marks) (take i balls) ++ (markOf marks (getD balls i 0) ∷ [])
 hits-step marks balls i h = rw (add-one, take-suc balls i 0) (map-append (markOf marks) (take i balls) _)
+
+-- ---- the sizes in one word
+
+-- a byte of the word is the size in its place
+pub word-byte : (xs : List ℕ) → ((i : ℕ) → getD xs i 0 < 256) → (k : ℕ) → sizeWord xs / 256 ^ k % 256 ≡ getD xs k 0
+unfolding sizeWord
+word-byte [] small k = ap (λ n. n % 256) (zero-div (256 ^ k))
+word-byte (x ∷ xs) small zero = ap (λ n. n % 256) (div-one (sizeWord xs * 256 + x)) ∙ low (sizeWord xs) 8 (small 0)
+word-byte (x ∷ xs) small (suc k) =
+    ap (λ n. (sizeWord xs * 256 + x) / n % 256) (pow-succ' 256 k)
+    ∙ ap (λ n. n % 256) (sym (div-div-eq-div-mul (sizeWord xs * 256 + x) 256 (256 ^ k)))
+    ∙ ap (λ n. n / 256 ^ k % 256) (high (sizeWord xs) 8 (small 0))
+    ∙ word-byte xs (λ i. small (suc i)) k
+
+-- eight bytes fit a word
+word-below : (xs : List ℕ) → ((i : ℕ) → getD xs i 0 < 256) → sizeWord xs < 256 ^ length xs
+unfolding sizeWord
+word-below [] small = omega arith
+word-below (x ∷ xs) small = rw (pow-suc 256 (length xs)) (omega (arith, small 0, word-below xs (λ i. small (suc i))))
+
+pub word-fits : (xs : List ℕ) → ((i : ℕ) → getD xs i 0 < 256) → length xs ≤ 8 → sizeWord xs < 2 ^ 64
+word-fits xs small few = lt-of-lt-of-le (word-below xs small) (pow-le-pow-right (omega arith) {j = 8} few)
+
+-- as the code makes it, from the last size to the first
+module _ (xs : List ℕ) {n : ℕ} (inside : n < length xs) where
+  pub word-more : sizeWord (drop (suc n) xs) * 256 + getD xs n 0 ≡ sizeWord (drop n xs)
+  unfolding sizeWord
+  word-more = ap sizeWord (sym (drop-cons xs n 0 inside))

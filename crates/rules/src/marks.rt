@@ -3,7 +3,7 @@ use crate::terms::Draw;
 ghost use mathlib.Core.Path.{_≡_};
 ghost use mathlib.Core.List.{List, [], _∷_, _++_};
 ghost use Prim.Native.Nat.{ℕ};
-ghost use Rattle.rules.specs.Ways.{sizes, hits, sizeOf, byGroup};
+ghost use Rattle.rules.specs.Ways.{sizes, hits, sizeOf, byGroup, sizeWord};
 ghost use Rattle.rules.specs.Bounds.{Marked, Countable};
 
 // The groups' counts with one mark more. A mark that names no group counts for none.
@@ -33,6 +33,19 @@ pub fn group_sizes(marks: &[u8]) -> [u8; 8]
         i += 1;
     }
     counts
+}
+
+// The sizes of the groups in one word, that of group 1 in its lowest byte.
+pub fn size_word(sizes: [u8; 8]) -> u64
+    ensures { λ r. ⌜ r ≡ sizeWord sizes ⌝ }
+{
+    let mut word: u64 = 0;
+    let mut left: usize = 8;
+    while 0 < left {
+        left -= 1;
+        word = word * 256 + sizes[left] as u64;
+    }
+    word
 }
 
 // The mark of a number, 0 for one that is not on the ticket.

@@ -7,7 +7,7 @@ use mathlib.Core.List.{List, [], _∷_, _++_}
 use lib.Dec.{eqb}
 use lib.ListN.{length, take}
 use borrow.Author.Tests.{eqb-true, eq-eqb, ne-eqb, le-leb, lt-leb, lt-ltb, le-ltb}
-use Rattle.rules.specs.Ways.{sizes}
+use Rattle.rules.specs.Ways.{sizes, sizeWord}
 use Rattle.rules.specs.Price.{paidGames}
 use Rattle.rules.specs.Checks.{Operands, firstMet, operandRows, operandCode, wayCount, chargeOf, quoteOf}
 use Rattle.rules.specs.Settle.{jackpotBy}
@@ -119,22 +119,24 @@ soldHouse h charge =
 
 module _ (h : House) (words marks : List ℕ) (o : Operands) where
   pub ticket-sold :
-      (first jackpot paid count : ℕ)
+      (first jackpot word paid count : ℕ)
       → first ≡ nextGame (view h words marks)
       → jackpot ≡ jackpotBy (termsOf o) (sizes (o .marks))
+      → word ≡ sizeWord (sizes (o .marks))
       → paid ≡ paidGames (o .games)
       → count ≡ wayCount o
       → _≡_ {A = Ticket}
-      (record { number = h .issued + 1; operands = o; ways = count; jackpot = jackpot; soldDay = h .day; first = first; stop = first + o .games; free = first + paid; due = 0; finishedDay = 0 })
+      (record { number = h .issued + 1; operands = o; ways = count; jackpot = jackpot; sizes = word; soldDay = h .day; first = first; stop = first + o .games; free = first + paid; due = 0; finishedDay = 0 })
       (soldTicket (view h words marks) o)
   unfolding view
-  ticket-sold first jackpot paid count began played payed counted =
+  ticket-sold first jackpot word paid count began played sized payed counted =
       λ x.
       record {
         number = h .issued + 1;
         operands = o;
         ways = counted x;
         jackpot = played x;
+        sizes = sized x;
         soldDay = h .day;
         first = began x;
         stop = began x + o .games;

@@ -7,6 +7,7 @@ use house::rows::append_ticket;
 use house::state::House;
 use rules::check::quote_for;
 use rules::marks::group_sizes;
+use rules::marks::size_word;
 use rules::price::paid_games;
 use rules::terms::Kind;
 use rules::terms::Terms;
@@ -67,7 +68,9 @@ fn sold_row(
         groups,
         types,
     };
-    let jackpot = jackpot_of(terms, group_sizes(from));
+    let sizes = group_sizes(from);
+    let jackpot = jackpot_of(terms, sizes);
+    let word = size_word(sizes);
     let paid = paid_games(games);
     Row {
         number: house.issued + 1,
@@ -84,6 +87,7 @@ fn sold_row(
         free: first + paid as u64,
         due: 0,
         finished: 0,
+        sizes: word,
     }
 }
 

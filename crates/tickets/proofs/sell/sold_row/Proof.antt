@@ -1,8 +1,9 @@
 -- `house::sell::sold_row` meets its contract, field by field.
 use native.Mathlib.Omega.{arith}
-use mathlib.Core.Path.{ap₂, _∙_}
+use mathlib.Core.Path.{ap, ap₂, _∙_}
 use mathlib.Core.List.{[]}
 use borrow.Author.Needs.{needs}
+use Rattle.rules.specs.Ways.{sizeWord}
 use Rattle.rules.specs.Checks.{Operands}
 use Rattle.rules.specs.Settle.{jackpotBy}
 use Rattle.house.specs.View.{view}
@@ -22,42 +23,47 @@ group-sizes-requires c κs = search needs
 jackpot-of-requires : tie.Need-jackpot-of-requires
 jackpot-of-requires c κs = search needs
 
+size-word-requires : tie.Need-size-word-requires
+size-word-requires c κs = search needs
+
 paid-games-requires : tie.Need-paid-games-requires
 paid-games-requires c κs = search needs
 
-add-t15 : tie.Need-add-t15
-add-t15 c = search needs
+add-t16 : tie.Need-add-t16
+add-t16 c = search needs
 
-cast-t22 : tie.Need-cast-t22
-cast-t22 c = search needs
+cast-t23 : tie.Need-cast-t23
+cast-t23 c = search needs
 
-add-t24 : tie.Need-add-t24
+add-t25 : tie.Need-add-t25
 unfolding view
-add-t24 c =
-    let called = c .before .before .before .before .before in
+add-t25 c =
+    let called = c .before .before .before .before .before .before in
     omega (arith, called .first-game .ensures [] [], next-within (view (called .before .before .args .house) [] []))
 
-cast-t25 : tie.Need-cast-t25
-cast-t25 c = search needs
+cast-t26 : tie.Need-cast-t26
+cast-t26 c = search needs
 
-add-t26 : tie.Need-add-t26
+add-t27 : tie.Need-add-t27
 unfolding view
-add-t26 c =
-    let called = c .before .before .before .before .before in
+add-t27 c =
+    let called = c .before .before .before .before .before .before in
     omega (arith, called .first-game .ensures [] [], next-within (view (called .before .before .args .house) [] []))
 
 returns : tie.Need-returns
 returns c = λ words marks.
     let paid = c .before in
-    let played = paid .before in
+    let packed = paid .before in
+    let played = packed .before in
     let sized = played .before in
     let kind = sized .before in
     let began = kind .before in
     let args = began .before .before .args in
     let o : Operands = record { kind = args .kind; games = args .games; stake = args .stake; groups = args .groups; types = args .types; marks = args .from .now } in
-    ticket-sold (args .house) words marks o _ _ _ _ (began .first-game .ensures words marks)
+    ticket-sold (args .house) words marks o _ _ _ _ _ (began .first-game .ensures words marks)
     (played .jackpot-of .ensures
     ∙ ap₂ (λ k s. jackpotBy (record { kind = k; games = args .games; stake = args .stake; groups = args .groups; types = args .types }) s) (kind .of .ensures) (sized .group-sizes .ensures))
+    (packed .size-word .ensures ∙ ap sizeWord (sized .group-sizes .ensures))
     (paid .paid-games .ensures)
     (began .before .before .pre .4)
 
@@ -69,10 +75,11 @@ sold-row-spec =
     of-requires
     group-sizes-requires
     jackpot-of-requires
+    size-word-requires
     paid-games-requires
-    add-t15
-    cast-t22
-    add-t24
-    cast-t25
-    add-t26
+    add-t16
+    cast-t23
+    add-t25
+    cast-t26
+    add-t27
     returns)
