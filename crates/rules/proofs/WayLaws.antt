@@ -40,22 +40,6 @@ module _ {A : Type 0} where
       go true ys e = omega arith
       go false ys e = omega arith
 
-  -- all pass a test where as many pass as there are
-  pub every-by-length : (p : A → Bool) (xs : List A) → every p xs ≡ eqb (length (keep p xs)) (length xs)
-  unfolding keep every
-  every-by-length p [] = refl
-  every-by-length p (x ∷ xs) = go (p x) (keep p xs) (length-keep-le p xs) (every-by-length p xs)
-    where
-      go : (b : Bool) (ys : List A) {t : Bool} → length ys ≤ length xs → t ≡ eqb (length ys) (length xs)
-          → (b && t) ≡ eqb (length (cond b (x ∷ ys) ys)) (suc (length xs))
-      go true ys h e = e ∙ sym (eqb·suc-suc (length ys) (length xs))
-      go false ys h e = sym (ne-eqb (length ys) (suc (length xs)) (λ k. omega arith))
-
-  pub keep-all : (p : A → Bool) → ((x : A) → p x ≡ true) → (xs : List A) → keep p xs ≡ xs
-  unfolding keep
-  keep-all p h [] = refl
-  keep-all p h (x ∷ xs) = ap (λ b. cond b (x ∷ keep p xs) (keep p xs)) (h x) ∙ ap (λ l. x ∷ l) (keep-all p h xs)
-
 module _ {A B : Type 0} where
   pub keep-map : (p : B → Bool) (g : A → B) (xs : List A) → keep p (map g xs) ≡ map g (keep (λ x. p (g x)) xs)
   unfolding keep
@@ -69,10 +53,6 @@ module _ {A B : Type 0} where
 module _ {A : Type 0} (p : ℕ → Bool) (g : A → ℕ) (xs : List A) where
   pub length-keep-map : length (keep p (map g xs)) ≡ sum (map (λ x. cond (p (g x)) 1 0) xs)
   length-keep-map = ap length (keep-map p g xs) ∙ length-map (keep (λ x. p (g x)) xs) g ∙ length-keep (λ x. p (g x)) xs
-
-  pub length-keep-map-all : ((x : A) → p (g x) ≡ true) → length (keep p (map g xs)) ≡ length xs
-  length-keep-map-all h =
-      ap length (keep-map p g xs) ∙ length-map (keep (λ x. p (g x)) xs) g ∙ ap length (keep-all (λ x. p (g x)) h xs)
 
   pub sum-keep-map : sum (keep p (map g xs)) ≡ sum (map (λ x. cond (p (g x)) (g x) 0) xs)
   sum-keep-map = ap sum (keep-map p g xs) ∙ sum-map-keep g (λ x. p (g x)) xs
@@ -181,11 +161,6 @@ unfolding taken
 taken-none [] = refl
 taken-none (x ∷ xs) = omega (arith, zero-mul x, taken-none xs)
 
-pub taken-of-zeros : (m n : ℕ) → taken m (replicate n 0) ≡ 0
-unfolding taken
-taken-of-zeros m zero = refl
-taken-of-zeros m (suc n) = omega (arith, mul-zero (m % 2), taken-of-zeros (m / 2) n)
-
 pub taken-with : (m n : ℕ) (xs : List ℕ) → taken (m * 2 + 1) (drop n xs) ≡ taken m (drop (suc n) xs) + getD xs n 0
 unfolding taken
 taken-with m zero [] = refl
@@ -203,19 +178,6 @@ taken-without m zero (x ∷ xs) =
     ∙ ap (λ k. 0 * x + taken k xs) (mul-div-cancel m (zero-lt-suc 1)) ∙ omega (arith, zero-mul x)
 taken-without m (suc n) [] = refl
 taken-without m (suc n) (x ∷ xs) = taken-without m n xs
-
--- of empty groups every way selects from 0 to 0 numbers
-pub all-empty : (g types : ℕ) → length (keep (λ n. leb 0 n && leb n 0) (waySizes g types (replicate 8 0))) ≡ length (ways g types)
-unfolding waySizes
-all-empty g types =
-    length-keep-map-all (λ n. leb 0 n && leb n 0) (λ m. taken m (replicate 8 0)) (ways g types)
-    (λ m. ap (λ n. leb 0 n && leb n 0) (taken-of-zeros m 8))
-
--- all ways fit where as many fit as there are
-pub within-by-length : (lo hi g types : ℕ) (xs : List ℕ)
-    → within lo hi (waySizes g types xs) ≡ eqb (length (keep (λ n. leb lo n && leb n hi) (waySizes g types xs))) (length (ways g types))
-unfolding within waySizes
-within-by-length lo hi g types xs = rw (every-by-length, length-map)
 
 -- ---- the steps of the walk, in the code's terms
 

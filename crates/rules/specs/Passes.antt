@@ -1,18 +1,21 @@
 -- What the code computes of a ticket in one pass over its ways, before any cut and in a round of it, and the state that it carries from one
 -- round to the next. The laws in proofs/ join these to the definitions above: no prize is ever stored.
-use Prim.Native.Nat.{ℕ, zero, suc, _+_, _*_, _-_, _/_, _%_, _^_, _<_, max}
+use Prim.Native.Nat.{ℕ, zero, suc, _+_, _*_, _-_, _/_, _%_, _^_, _<_, min, max}
 use mathlib.Core.Path.{_≡_}
 use mathlib.Core.Bool.{Bool, cond, not, _&&_}
 use mathlib.Core.List.{List, [], _∷_, _++_, map}
 use lib.Dec.{ltb, leb, eqb}
-use lib.ListN.{length, getD}
+use lib.ListN.{length, getD, drop}
 use lib.Count.{ones}
 use Rattle.rules.specs.Lists.{sum, keep}
-use Rattle.rules.specs.Ways.{nominated, taken}
+use Rattle.rules.specs.Kinds.{kindOf}
+use Rattle.rules.specs.Ways.{sizes, sizeWord, nominated, taken, waySizes}
+use Rattle.rules.specs.Checks.{Operands, firstMet, operandRows, operandCode}
 use Rattle.rules.specs.Prize.{prizeLimit, majorFloor, isMajor, prize}
 use Rattle.rules.specs.Settle.{prizesBy, fullBy}
 use Rattle.rules.specs.declared.terms.Kind.{Kind}
 use Rattle.rules.specs.declared.terms.Terms.{Terms}
+use Rattle.rules.specs.declared.survey.Survey.{Survey}
 use Rattle.rules.specs.declared.found.Found.{Found}
 use Rattle.rules.specs.declared.cut.Cut.{Cut}
 use Rattle.rules.specs.declared.sums.Sums.{Sums}
@@ -28,14 +31,47 @@ waysFrom types (suc left) mask = waysFrom types left (mask * 2) ++ waysFrom type
 unfoldable pub nominable : ℕ → ℕ → ℕ → Bool
 nominable types taken left = not (eqb (types * 2 / 2 ^ taken % 2 ^ (left + 1)) 0)
 
+-- ---- a sale's one look at its ways
+
+-- the sizes of the ways that begin so, from the sizes of the groups
+abbrev pub sizesFrom : ℕ → List ℕ → ℕ → ℕ → List ℕ
+sizesFrom types sizes left mask = map (λ m. taken m sizes) (waysFrom types left mask)
+
+-- one way more, which selects so many numbers
+abbrev pub noted : Survey → ℕ → Survey
+noted s size = record { count = s .count + 1; least = min (s .least) size; most = max (s .most) size }
+
+unfoldable pub surveyFrom : Survey → List ℕ → Survey
+surveyFrom s [] = s
+surveyFrom s (size ∷ sizes) = surveyFrom (noted s size) sizes
+
+-- how many, the smallest and the largest of them. Where there are none, every test of a size from a byte to another is passed.
+abbrev pub surveyOf : List ℕ → Survey
+surveyOf sizes = surveyFrom (record { count = 0; least = 255; most = 0 }) sizes
+
+-- the same in a table with a place for each
+abbrev pub surveyIn : List ℕ → Survey
+surveyIn table = record { count = getD table 0 0; least = getD table 1 0; most = getD table 2 0 }
+
+-- a table with room for the count of those ways
+pub record Unfilled (sizes table : List ℕ) : Type 0 where
+  pub room : getD table 0 0 + length sizes < 2 ^ 32
+
+-- what is known of a sale where its ways are looked at: the checks before are passed
+pub record LookedAt (o : Operands) (k : Kind) (g s : ℕ) (seen : Survey) (w : ℕ) : Type 0 where
+  pub kind : k ≡ kindOf (o .kind)
+  pub games : g ≡ o .games
+  pub stake : s ≡ o .stake
+  pub survey : seen ≡ surveyOf (waySizes (o .groups) (o .types) (sizes (o .marks)))
+  pub word : w ≡ sizeWord (sizes (o .marks))
+  pub passed : operandCode o ≡ firstMet (drop 5 (operandRows o))
+
+-- ---- sums over ways
+
 -- A figure summed over the ways that begin with a choice of groups, the mask m, where so many groups are left to take or to leave.
 unfoldable pub sumFrom : ℕ → (ℕ → ℕ) → ℕ → ℕ → ℕ
 sumFrom types f zero m = cond (nominated types (ones m)) (f m) 0
 sumFrom types f (suc left) m = sumFrom types f left (m * 2 + 1) + sumFrom types f left (m * 2)
-
--- 1 for a way that selects from lo to hi numbers, from the sizes of the groups, and 0 for another
-abbrev pub sizeBetween : ℕ → ℕ → List ℕ → ℕ → ℕ
-sizeBetween lo hi sizes m = cond (leb lo (taken m sizes) && leb (taken m sizes) hi) 1 0
 
 -- ---- the figures of a pass
 

@@ -9,5 +9,6 @@ pub mod price;
 pub mod prize;
 pub mod schedule;
 pub mod sums;
+pub mod survey;
 pub mod terms;
 pub mod ways;
