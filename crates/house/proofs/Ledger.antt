@@ -7,7 +7,7 @@ use mathlib.Core.List.{List, [], _∷_, _++_, map}
 use lib.ListN.{length}
 use Rattle.rules.specs.Checks.{operandCode, wayCount}
 use Rattle.rules.specs.Price.{paidGames}
-use Rattle.rules.specs.Ways.{sizes}
+use Rattle.rules.specs.Ways.{sizes, sizeWord}
 use Rattle.rules.specs.Settle.{jackpotBy}
 use Rattle.house.specs.Tickets.{Ticket, termsOf, gamesLeft, withDue}
 use Rattle.house.specs.Model.{Model, gameLimit}
@@ -60,6 +60,7 @@ pub record Kept (game : ℕ) (t : Ticket) : Type 0 where
   pub checked : operandCode (t .operands) ≡ 0
   pub counted : t .ways ≡ wayCount (t .operands)
   pub playing : t .jackpot ≡ jackpotBy (termsOf (t .operands)) (sizes (t .operands .marks))
+  pub sized : t .sizes ≡ sizeWord (sizes (t .operands .marks))
   pub freeFrom : t .free ≡ t .first + paidGames (t .operands .games)
   pub begins : 1 ≤ t .first
   pub ends : t .stop ≤ gameLimit + 1

@@ -12,7 +12,7 @@ use lib.ListN.{length, length-map, length-append}
 use borrow.Author.Tests.{eqb-true, eqb-false}
 use Rattle.rules.specs.Checks.{Operands, operandCode, wayCount}
 use Rattle.rules.specs.Price.{paidGames}
-use Rattle.rules.specs.Ways.{sizes}
+use Rattle.rules.specs.Ways.{sizes, sizeWord}
 use Rattle.rules.specs.Settle.{jackpotBy}
 use Rattle.house.specs.Tickets.{Ticket, termsOf, runsIn, gamesLeft, isFinished, withDue, withStop, withFinishedDay}
 use Rattle.house.specs.Model.{Model, Counters, fresh, gameLimit}
@@ -49,6 +49,7 @@ record KeptButDay (game : ℕ) (t : Ticket) : Type 0 where
   checked : operandCode (t .operands) ≡ 0
   counted : t .ways ≡ wayCount (t .operands)
   playing : t .jackpot ≡ jackpotBy (termsOf (t .operands)) (sizes (t .operands .marks))
+  sized : t .sizes ≡ sizeWord (sizes (t .operands .marks))
   freeFrom : t .free ≡ t .first + paidGames (t .operands .games)
   begins : 1 ≤ t .first
   ends : t .stop ≤ gameLimit + 1
@@ -60,11 +61,11 @@ finished-on-kept day game t opened h = go (isFinished game t) (eqb (t .finishedD
   where
     go : (a b : Bool) → isFinished game t ≡ a → eqb (t .finishedDay) 0 ≡ b → Kept game (cond (a && b) (withFinishedDay t day) t)
     go true true e f =
-        record { checked = h .checked; counted = h .counted; playing = h .playing; freeFrom = h .freeFrom; begins = h .begins; ends = h .ends; running = λ left. absurd (left (eqb-true _ _ e)); finished = λ none. opened }
+        record { checked = h .checked; counted = h .counted; playing = h .playing; sized = h .sized; freeFrom = h .freeFrom; begins = h .begins; ends = h .ends; running = λ left. absurd (left (eqb-true _ _ e)); finished = λ none. opened }
     go true false e f =
-        record { checked = h .checked; counted = h .counted; playing = h .playing; freeFrom = h .freeFrom; begins = h .begins; ends = h .ends; running = h .running; finished = λ none. eqb-false _ _ f }
+        record { checked = h .checked; counted = h .counted; playing = h .playing; sized = h .sized; freeFrom = h .freeFrom; begins = h .begins; ends = h .ends; running = h .running; finished = λ none. eqb-false _ _ f }
     go false b e f =
-        record { checked = h .checked; counted = h .counted; playing = h .playing; freeFrom = h .freeFrom; begins = h .begins; ends = h .ends; running = h .running; finished = λ none. absurd (eqb-false _ _ e none) }
+        record { checked = h .checked; counted = h .counted; playing = h .playing; sized = h .sized; freeFrom = h .freeFrom; begins = h .begins; ends = h .ends; running = h .running; finished = λ none. absurd (eqb-false _ _ e none) }
 
 cancelled-kept :
     (m : Model) (t : Ticket) → (m .day ≡ 0 → ⊥) → Kept (m .game) t → Kept (m .game) (cancelledTicket m t)
@@ -73,17 +74,17 @@ cancelled-kept m t opened h =
     finished-on-kept (m .day) (m .game)
     (withStop t (min (t .stop) (cancelStop m t)))
     opened
-    (record { checked = h .checked; counted = h .counted; playing = h .playing; freeFrom = h .freeFrom; begins = h .begins; ends = omega (arith, h .ends); running = λ left. h .running (λ none. left (omega (arith, none))) })
+    (record { checked = h .checked; counted = h .counted; playing = h .playing; sized = h .sized; freeFrom = h .freeFrom; begins = h .begins; ends = omega (arith, h .ends); running = λ left. h .running (λ none. left (omega (arith, none))) })
 
 paid-kept : (game cents : ℕ) (t : Ticket) → Kept game t → Kept game (withDue t cents)
 unfolding gamesLeft
 paid-kept game cents t h =
-    record { checked = h .checked; counted = h .counted; playing = h .playing; freeFrom = h .freeFrom; begins = h .begins; ends = h .ends; running = h .running; finished = h .finished }
+    record { checked = h .checked; counted = h .counted; playing = h .playing; sized = h .sized; freeFrom = h .freeFrom; begins = h .begins; ends = h .ends; running = h .running; finished = h .finished }
 
 later-kept : (game : ℕ) (t : Ticket) → Kept game t → KeptButDay (game + 1) t
 unfolding gamesLeft
 later-kept game t h =
-    record { checked = h .checked; counted = h .counted; playing = h .playing; freeFrom = h .freeFrom; begins = h .begins; ends = h .ends; running = λ left. h .running (λ none. left (omega (arith, none))) }
+    record { checked = h .checked; counted = h .counted; playing = h .playing; sized = h .sized; freeFrom = h .freeFrom; begins = h .begins; ends = h .ends; running = λ left. h .running (λ none. left (omega (arith, none))) }
 
 award-kept : (game : ℕ) (t : Ticket) (awards : List ℕ) → Kept game t → Kept game (awardTo game awards t)
 award-kept game t [] h = h
@@ -96,6 +97,7 @@ sold-kept m o games h =
       checked = h .checked;
       counted = refl;
       playing = refl;
+      sized = refl;
       freeFrom = refl;
       begins = omega (arith, next-game-least m);
       ends = h .ends;

@@ -51,10 +51,10 @@ tickets-set words marks words′ marks′ i t h e others =
 
 abbrev wordsOf : Row → List ℕ
 wordsOf w =
-    w .number ∷ w .kind ∷ w .games ∷ w .stake ∷ w .groups ∷ w .types ∷ w .ways ∷ w .jackpot ∷ w .sold ∷ w .first ∷ w .stop ∷ w .free ∷ w .due ∷ w .finished ∷ []
+    w .number ∷ w .kind ∷ w .games ∷ w .stake ∷ w .groups ∷ w .types ∷ w .ways ∷ w .jackpot ∷ w .sold ∷ w .first ∷ w .stop ∷ w .free ∷ w .due ∷ w .finished ∷ w .sizes ∷ []
 
 -- rows that agree word by word
-row-from : (words words′ : List ℕ) (at at′ : ℕ) → ((k : ℕ) → k < 14 → getD words (at + k) 0 ≡ getD words′ (at′ + k) 0)
+row-from : (words words′ : List ℕ) (at at′ : ℕ) → ((k : ℕ) → k < 15 → getD words (at + k) 0 ≡ getD words′ (at′ + k) 0)
     → rowOf words at ≡ rowOf words′ at′
 row-from words words′ at at′ same =
     let first : getD words at 0 ≡ getD words′ at′ 0 =
@@ -75,15 +75,16 @@ row-from words words′ at at′ same =
       free = same 11 (lit< tt) x;
       due = same 12 (lit< tt) x;
       finished = same 13 (lit< tt) x;
+      sizes = same 14 (lit< tt) x;
     }
 
 module _ (words : List ℕ) (long : length words ≡ 3200) (i : ℕ) (h : i < 200) where
-  row-of-sets : (vs : List ℕ) → length vs ≡ 14 → rowOf (sets words (i * 16) vs) (i * 16) ≡ rowOf vs 0
+  row-of-sets : (vs : List ℕ) → length vs ≡ 15 → rowOf (sets words (i * 16) vs) (i * 16) ≡ rowOf vs 0
   row-of-sets vs e =
       row-from (sets words (i * 16) vs) vs (i * 16) 0
       (λ k b. getD-sets-at vs words (i * 16) k 0 (omega arith) (omega arith) ∙ ap (λ n. getD vs n 0) (sym (zero-add k)))
 
-  row-beside-sets : (vs : List ℕ) → length vs ≡ 14 → (j : ℕ) → (j ≡ i → ⊥)
+  row-beside-sets : (vs : List ℕ) → length vs ≡ 15 → (j : ℕ) → (j ≡ i → ⊥)
       → rowOf (sets words (i * 16) vs) (j * 16) ≡ rowOf words (j * 16)
   row-beside-sets vs e j n =
       row-from (sets words (i * 16) vs) words (j * 16) (j * 16)

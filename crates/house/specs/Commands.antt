@@ -8,7 +8,7 @@ use lib.ListN.{length}
 use Rattle.rules.specs.Lists.{sum, keep, any, member}
 use Rattle.rules.specs.Checks.{Operands, operandRows, firstMet, wayCount, chargeOf}
 use Rattle.rules.specs.Price.{paidGames}
-use Rattle.rules.specs.Ways.{sizes}
+use Rattle.rules.specs.Ways.{sizes, sizeWord}
 use Rattle.rules.specs.Settle.{Settled, settle, jackpotBy}
 use Rattle.rules.specs.declared.jackpot.Jackpot.{Jackpot}
 pub use Rattle.house.specs.declared.answer.Answer.{Answer}
@@ -28,7 +28,7 @@ pub data Command : Type 0 where
 
 abbrev pub blankTicket : Ticket
 blankTicket =
-    record { number = 0; operands = record { kind = 0; games = 0; stake = 0; groups = 0; types = 0; marks = [] }; ways = 0; jackpot = 0; soldDay = 0; first = 0; stop = 0; free = 0; due = 0; finishedDay = 0 }
+    record { number = 0; operands = record { kind = 0; games = 0; stake = 0; groups = 0; types = 0; marks = [] }; ways = 0; jackpot = 0; sizes = 0; soldDay = 0; first = 0; stop = 0; free = 0; due = 0; finishedDay = 0 }
 
 -- the live ticket of a number, or the blank one
 unfoldable pub ticketAt : ℕ → List Ticket → Ticket
@@ -114,6 +114,7 @@ soldTicket m o =
       operands = o;
       ways = wayCount o;
       jackpot = jackpotBy (termsOf o) (sizes (o .marks));
+      sizes = sizeWord (sizes (o .marks));
       soldDay = m .day;
       first = nextGame m;
       stop = nextGame m + o .games;

@@ -13,9 +13,10 @@ use Rattle.rules.specs.declared.terms.Terms.{Terms}
 pub record Ticket : Type 0 where
   pub number : ℕ
   pub operands : Operands
-  -- how many ways the operands make, and the jackpot that they play for: 6, 8, or 0 for none
+  -- how many ways the operands make, the jackpot that they play for: 6, 8, or 0 for none, and the sizes of the groups in one word
   pub ways : ℕ
   pub jackpot : ℕ
+  pub sizes : ℕ
   pub soldDay : ℕ
   -- the first game, the one after the last that is not cancelled, and the first that is free
   pub first : ℕ
@@ -62,12 +63,12 @@ kenoToGoBegun game drawing t = leb 50 (t .operands .games) && (ltb (t .first) ga
 module _ (t : Ticket) where
   abbrev pub withDue : ℕ → Ticket
   withDue cents =
-      record { number = t .number; operands = t .operands; ways = t .ways; jackpot = t .jackpot; soldDay = t .soldDay; first = t .first; stop = t .stop; free = t .free; due = cents; finishedDay = t .finishedDay }
+      record { number = t .number; operands = t .operands; ways = t .ways; jackpot = t .jackpot; sizes = t .sizes; soldDay = t .soldDay; first = t .first; stop = t .stop; free = t .free; due = cents; finishedDay = t .finishedDay }
 
   abbrev pub withStop : ℕ → Ticket
   withStop game =
-      record { number = t .number; operands = t .operands; ways = t .ways; jackpot = t .jackpot; soldDay = t .soldDay; first = t .first; stop = game; free = t .free; due = t .due; finishedDay = t .finishedDay }
+      record { number = t .number; operands = t .operands; ways = t .ways; jackpot = t .jackpot; sizes = t .sizes; soldDay = t .soldDay; first = t .first; stop = game; free = t .free; due = t .due; finishedDay = t .finishedDay }
 
   abbrev pub withFinishedDay : ℕ → Ticket
   withFinishedDay day =
-      record { number = t .number; operands = t .operands; ways = t .ways; jackpot = t .jackpot; soldDay = t .soldDay; first = t .first; stop = t .stop; free = t .free; due = t .due; finishedDay = day }
+      record { number = t .number; operands = t .operands; ways = t .ways; jackpot = t .jackpot; sizes = t .sizes; soldDay = t .soldDay; first = t .first; stop = t .stop; free = t .free; due = t .due; finishedDay = day }

@@ -31,12 +31,13 @@ rowOf words at =
       free = getD words (at + 11) 0;
       due = getD words (at + 12) 0;
       finished = getD words (at + 13) 0;
+      sizes = getD words (at + 14) 0;
     }
 
 unfoldable pub putRow : List ℕ → ℕ → Row → List ℕ
 putRow words at w =
     sets words at
-    (w .number ∷ w .kind ∷ w .games ∷ w .stake ∷ w .groups ∷ w .types ∷ w .ways ∷ w .jackpot ∷ w .sold ∷ w .first ∷ w .stop ∷ w .free ∷ w .due ∷ w .finished ∷ [])
+    (w .number ∷ w .kind ∷ w .games ∷ w .stake ∷ w .groups ∷ w .types ∷ w .ways ∷ w .jackpot ∷ w .sold ∷ w .first ∷ w .stop ∷ w .free ∷ w .due ∷ w .finished ∷ w .sizes ∷ [])
 
 -- the 80 marks of the ticket at a place
 unfoldable pub marksAt : List ℕ → ℕ → List ℕ
@@ -53,6 +54,7 @@ ticketFrom w marks =
       operands = record { kind = w .kind; games = w .games; stake = w .stake; groups = w .groups; types = w .types; marks = marks };
       ways = w .ways;
       jackpot = w .jackpot;
+      sizes = w .sizes;
       soldDay = w .sold;
       first = w .first;
       stop = w .stop;

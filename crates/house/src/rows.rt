@@ -42,6 +42,7 @@ pub struct Row {
     pub free: u64,
     pub due: u64,
     pub finished: u64,
+    pub sizes: u64,
 }
 
 // The row at a place.
@@ -65,16 +66,17 @@ pub fn read_row(rows: &[u64; 3200], i: usize) -> Row
         free: rows[at + 11],
         due: rows[at + 12],
         finished: rows[at + 13],
+        sizes: rows[at + 14],
     }
 }
 
-// Fourteen words from a place on.
+// Fifteen words from a place on.
 fn put_words(rows: &mut [u64; 3200], at: usize, words: &[u64])
-    requires { ⌜ (at ≤ 3186) × (length (now words) ≡ 14) ⌝ }
+    requires { ⌜ (at ≤ 3185) × (length (now words) ≡ 15) ⌝ }
     ensures { λ r. ⌜ now (rows .exit) ≡ sets (now (rows .entry)) at (now (words .entry)) ⌝ }
 {
     let mut k = 0;
-    while k < 14 {
+    while k < 15 {
         rows[at + k] = words[k];
         k += 1;
     }
@@ -100,6 +102,7 @@ pub fn write_row(rows: &mut [u64; 3200], i: usize, row: Row)
         row.free,
         row.due,
         row.finished,
+        row.sizes,
     ];
     put_words(rows, i * 16, &words);
 }

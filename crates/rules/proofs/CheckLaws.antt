@@ -7,12 +7,12 @@ use native.Mathlib.Nat.{div-eq-of-lt, le-div-iff-mul-le, one-mul}
 use native.Mathlib.Numerals.{add-one}
 use native.Mathlib.Omega.{arith}
 use lib.Dec.{leb, eqb}
-use lib.ListN.{length, getD, drop, drop-of-length-le}
+use lib.ListN.{length, getD, take, drop, drop-of-length-le}
 use lib.Seq.{drop-cons}
 use borrow.Author.Tests.{eq-eqb, ne-eqb, leb-true, leb-false, eqb-true}
 use Rattle.rules.specs.Lists.{every}
-use Rattle.rules.specs.Ways.{ways}
-use Rattle.rules.specs.Checks.{Operands, firstMet, wayCount, chargeOf, marksFit, operandCode, quoteOf}
+use Rattle.rules.specs.Ways.{sizes, sizeWord}
+use Rattle.rules.specs.Checks.{Operands, firstMet, wayCount, chargeOf, jackpotOf, marksFit, operandCode, quoteOf}
 use Rattle.rules.specs.declared.check.Quote.{Quote}
 
 module _ {A : Type 0} (f : A → Bool) where
@@ -51,9 +51,18 @@ and-right false b e = absurd (false≢true e)
 pub within-le : (lo x hi : ℕ) → leb lo x && leb x hi ≡ true → x ≤ hi
 within-le lo x hi both = leb-true x hi (and-right (leb lo x) (leb x hi) both)
 
-pub eighty-marks : (g : ℕ) (marks : List ℕ) → marksFit g marks ≡ true → length marks ≡ 80
+-- the test of the marks: of their number, and of the groups by sizes that are theirs
+pub marks-few : (g : ℕ) (marks : List ℕ) → (length marks ≡ 80 → ⊥) → marksFit g marks ≡ false
 unfolding marksFit
-eighty-marks g marks fit = eqb-true (length marks) 80 (and-left _ _ (and-left _ _ fit))
+marks-few g marks few = rw (ne-eqb (length marks) 80 few)
+
+pub marks-by-groups : (g : ℕ) (marks : List ℕ) {counts : List ℕ} → length marks ≡ 80 → counts ≡ sizes marks
+    → (every (λ m. leb m g) marks && every (λ n. not (eqb n 0)) (take g counts)) ≡ marksFit g marks
+unfolding marksFit
+marks-by-groups g marks eighty same =
+    ap (λ (l : List ℕ). every (λ m. leb m g) marks && every (λ n. not (eqb n 0)) (take g l)) same
+    ∙ ap (λ b. b && every (λ m. leb m g) marks && every (λ n. not (eqb n 0)) (take g (sizes marks)))
+    (sym (eq-eqb (length marks) 80 eighty))
 
 -- a row of the table of refusals that is not met, and one that is
 pub row-passed : (test : Bool) (code : ℕ) (rows : List (Bool × ℕ)) → test ≡ false → firstMet ((test, code) ∷ rows) ≡ firstMet rows
@@ -65,11 +74,11 @@ unfolding firstMet
 row-met test code rows e = rw e
 
 pub refusal : (o : Operands) {code : ℕ} → operandCode o ≡ code → eqb code 0 ≡ false →
-    _≡_ {A = Quote} (record { code = code; ways = 0; charge = 0 }) (quoteOf o)
+    _≡_ {A = Quote} (record { code = code; ways = 0; charge = 0; jackpot = 0; sizes = 0 }) (quoteOf o)
 unfolding quoteOf
 refusal o met some = rw (met, some)
 
 pub acceptance : (o : Operands) → operandCode o ≡ 0 →
-    _≡_ {A = Quote} (record { code = 0; ways = wayCount o; charge = chargeOf o }) (quoteOf o)
+    _≡_ {A = Quote} (record { code = 0; ways = wayCount o; charge = chargeOf o; jackpot = jackpotOf o; sizes = sizeWord (sizes (o .marks)) }) (quoteOf o)
 unfolding quoteOf
 acceptance o met = rw met

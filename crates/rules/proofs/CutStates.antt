@@ -12,7 +12,7 @@ use borrow.Author.Tests.{ltb-true, ltb-false, lt-ltb, le-ltb, le-leb, lt-leb, le
 use Rattle.rules.specs.Lists.{sum, keep}
 use Rattle.rules.specs.Prize.{prizeLimit, majorFloor}
 use Rattle.rules.specs.Cut.{Floored, floorCount, cutBase, joins, roundOf, rounds, flooredOf, cutPrize, payout}
-use Rattle.rules.specs.Passes.{firstCut, shareable, payUnder, nextBelow}
+use Rattle.rules.specs.Rounds.{firstCut, shareable, payUnder, nextBelow}
 use Rattle.rules.specs.declared.cut.Cut.{Cut}
 use Rattle.rules.proofs.KeepLaws.{Agree, ltb-same, leb-not-ltb, keep-agree, keep-none, keep-all, length-keep-le, sum-keep-split, kept-le-sum}
 use Rattle.rules.proofs.CutRounds.{floorCount-agree, cutBase-agree, count-grows, stable-by-count, stable-floored}

@@ -14,7 +14,7 @@ use borrow.Author.Tests.{lt-ltb, le-ltb, le-leb, lt-leb}
 use Rattle.rules.specs.Lists.{sum, keep}
 use Rattle.rules.specs.Prize.{prizeLimit, majorFloor, isMajor}
 use Rattle.rules.specs.Cut.{payout}
-use Rattle.rules.specs.Passes.{firstCut, uncut, payUnder, nextBelow, cutBelow, Pays, Listed, PastLimit}
+use Rattle.rules.specs.Rounds.{firstCut, uncut, payUnder, nextBelow, cutBelow, Pays, Listed, PastLimit}
 use Rattle.rules.specs.declared.cut.Cut.{Cut}
 use Rattle.rules.proofs.KeepLaws.{length-keep-le, sum-within, sum-keep-split, member-le-sum}
 use Rattle.rules.proofs.CutPayouts.{payout-uncut}

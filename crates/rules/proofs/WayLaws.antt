@@ -15,22 +15,12 @@ use borrow.Author.Tests.{ne-eqb}
 use Rattle.rules.specs.Lists.{sum, below, keep, every}
 use Rattle.rules.specs.Kinds.{within}
 use Rattle.rules.specs.Ways.{nominated, ways, taken, waySizes}
-use Rattle.rules.specs.Passes.{sumFrom}
 use Rattle.rules.specs.Bounds.{Place, Carried}
 use Rattle.rules.proofs.KeepLaws.{length-keep-le}
 
 -- ---- lengths and choices as sums
 
 module _ {A : Type 0} where
-  pub sum-map-keep : (f : A → ℕ) (p : A → Bool) (xs : List A) → sum (map f (keep p xs)) ≡ sum (map (λ x. cond (p x) (f x) 0) xs)
-  unfolding sum keep
-  sum-map-keep f p [] = refl
-  sum-map-keep f p (x ∷ xs) = go (p x) (keep p xs) (sum-map-keep f p xs)
-    where
-      go : (b : Bool) (ys : List A) {n : ℕ} → sum (map f ys) ≡ n → sum (map f (cond b (x ∷ ys) ys)) ≡ cond b (f x) 0 + n
-      go true ys e = ap (λ k. f x + k) e
-      go false ys {n} e = e ∙ sym (zero-add n)
-
   pub length-keep : (p : A → Bool) (xs : List A) → length (keep p xs) ≡ sum (map (λ x. cond (p x) 1 0) xs)
   unfolding sum keep
   length-keep p [] = refl
@@ -39,22 +29,6 @@ module _ {A : Type 0} where
       go : (b : Bool) (ys : List A) {n : ℕ} → length ys ≡ n → length (cond b (x ∷ ys) ys) ≡ cond b 1 0 + n
       go true ys e = omega arith
       go false ys e = omega arith
-
-  -- all pass a test where as many pass as there are
-  pub every-by-length : (p : A → Bool) (xs : List A) → every p xs ≡ eqb (length (keep p xs)) (length xs)
-  unfolding keep every
-  every-by-length p [] = refl
-  every-by-length p (x ∷ xs) = go (p x) (keep p xs) (length-keep-le p xs) (every-by-length p xs)
-    where
-      go : (b : Bool) (ys : List A) {t : Bool} → length ys ≤ length xs → t ≡ eqb (length ys) (length xs)
-          → (b && t) ≡ eqb (length (cond b (x ∷ ys) ys)) (suc (length xs))
-      go true ys h e = e ∙ sym (eqb·suc-suc (length ys) (length xs))
-      go false ys h e = sym (ne-eqb (length ys) (suc (length xs)) (λ k. omega arith))
-
-  pub keep-all : (p : A → Bool) → ((x : A) → p x ≡ true) → (xs : List A) → keep p xs ≡ xs
-  unfolding keep
-  keep-all p h [] = refl
-  keep-all p h (x ∷ xs) = ap (λ b. cond b (x ∷ keep p xs) (keep p xs)) (h x) ∙ ap (λ l. x ∷ l) (keep-all p h xs)
 
 module _ {A B : Type 0} where
   pub keep-map : (p : B → Bool) (g : A → B) (xs : List A) → keep p (map g xs) ≡ map g (keep (λ x. p (g x)) xs)
@@ -65,17 +39,6 @@ module _ {A B : Type 0} where
       go : (b : Bool) (ys : List A) {zs : List B} → zs ≡ map g ys → cond b (g x ∷ zs) zs ≡ map g (cond b (x ∷ ys) ys)
       go true ys e = ap (λ l. g x ∷ l) e
       go false ys e = e
-
-module _ {A : Type 0} (p : ℕ → Bool) (g : A → ℕ) (xs : List A) where
-  pub length-keep-map : length (keep p (map g xs)) ≡ sum (map (λ x. cond (p (g x)) 1 0) xs)
-  length-keep-map = ap length (keep-map p g xs) ∙ length-map (keep (λ x. p (g x)) xs) g ∙ length-keep (λ x. p (g x)) xs
-
-  pub length-keep-map-all : ((x : A) → p (g x) ≡ true) → length (keep p (map g xs)) ≡ length xs
-  length-keep-map-all h =
-      ap length (keep-map p g xs) ∙ length-map (keep (λ x. p (g x)) xs) g ∙ ap length (keep-all (λ x. p (g x)) h xs)
-
-  pub sum-keep-map : sum (keep p (map g xs)) ≡ sum (map (λ x. cond (p (g x)) (g x) 0) xs)
-  sum-keep-map = ap sum (keep-map p g xs) ∙ sum-map-keep g (λ x. p (g x)) xs
 
 -- ---- a sum over masks
 
@@ -104,48 +67,6 @@ module _ (m n : ℕ) where
 
   pub upper : m * 2 ^ suc n + 2 ^ suc n ≡ (m * 2 + 1) * 2 ^ n + 2 ^ n
   upper = omega (arith, lower, middle, pow-suc 2 n)
-
-module _ (types : ℕ) (f : ℕ → ℕ) where
-  nominatedOnly : ℕ → ℕ
-  nominatedOnly m = cond (nominated types (ones m)) (f m) 0
-
-  sumFrom-upTo : (left m : ℕ) → upTo nominatedOnly (m * 2 ^ left + 2 ^ left) ≡ upTo nominatedOnly (m * 2 ^ left) + sumFrom types f left m
-  unfolding sumFrom nominatedOnly
-  sumFrom-upTo zero m =
-      ap (λ k. upTo nominatedOnly (k + 1)) (mul-one m) ∙ ap (upTo nominatedOnly) (add-one m) ∙ upTo-suc nominatedOnly m
-      ∙ ap (λ k. upTo nominatedOnly k + nominatedOnly m) (sym (mul-one m))
-  sumFrom-upTo (suc n) m =
-      omega (
-        arith,
-        ap (upTo nominatedOnly) (upper m n),
-        sumFrom-upTo n (m * 2 + 1),
-        ap (upTo nominatedOnly) (middle m n),
-        sumFrom-upTo n (m * 2),
-        ap (upTo nominatedOnly) (lower m n),
-      )
-
-  -- what the walk over g groups computes is the sum over their ways
-  pub sumFrom-ways : (g : ℕ) → sumFrom types f g 0 ≡ sum (map f (ways g types))
-  unfolding ways upTo nominatedOnly sum below
-  sumFrom-ways g =
-      sym (zero-add (sumFrom types f g 0)) ∙ ap (λ k. upTo nominatedOnly k + sumFrom types f g 0) (sym (zero-mul (2 ^ g)))
-      ∙ sym (sumFrom-upTo g 0)
-      ∙ ap (upTo nominatedOnly) (ap (λ k. k + 2 ^ g) (zero-mul (2 ^ g)) ∙ zero-add (2 ^ g))
-      ∙ sym (sum-map-keep f (λ m. nominated types (ones m)) (below (2 ^ g)))
-
-  -- no figure above b makes a sum of more than b for each mask
-  pub sumFrom-le : (b : ℕ) → ((m : ℕ) → f m ≤ b) → (left m : ℕ) → sumFrom types f left m ≤ b * 2 ^ left
-  unfolding sumFrom
-  sumFrom-le b h zero m = go (nominated types (ones m))
-    where
-      go : (t : Bool) → cond t (f m) 0 ≤ b * 1
-      go true = omega (arith, h m)
-      go false = omega arith
-  sumFrom-le b h (suc n) m =
-      omega (arith, sumFrom-le b h n (m * 2 + 1), sumFrom-le b h n (m * 2), ap (λ k. b * k) (pow-suc 2 n), mul-assoc b (2 ^ n) 2)
-
-  pub sumFrom-small : (b : ℕ) → ((m : ℕ) → f m ≤ b) → {left : ℕ} → left ≤ 8 → (m : ℕ) → sumFrom types f left m ≤ b * 256
-  sumFrom-small b h {left} few m = le-trans (sumFrom-le b h left m) (mul-le-mul-left b (pow-mono {j = 8} few))
 
 pub tally-le : (t : Bool) → cond t 1 0 ≤ 1
 tally-le true = omega arith
@@ -181,11 +102,6 @@ unfolding taken
 taken-none [] = refl
 taken-none (x ∷ xs) = omega (arith, zero-mul x, taken-none xs)
 
-pub taken-of-zeros : (m n : ℕ) → taken m (replicate n 0) ≡ 0
-unfolding taken
-taken-of-zeros m zero = refl
-taken-of-zeros m (suc n) = omega (arith, mul-zero (m % 2), taken-of-zeros (m / 2) n)
-
 pub taken-with : (m n : ℕ) (xs : List ℕ) → taken (m * 2 + 1) (drop n xs) ≡ taken m (drop (suc n) xs) + getD xs n 0
 unfolding taken
 taken-with m zero [] = refl
@@ -204,19 +120,6 @@ taken-without m zero (x ∷ xs) =
 taken-without m (suc n) [] = refl
 taken-without m (suc n) (x ∷ xs) = taken-without m n xs
 
--- of empty groups every way selects from 0 to 0 numbers
-pub all-empty : (g types : ℕ) → length (keep (λ n. leb 0 n && leb n 0) (waySizes g types (replicate 8 0))) ≡ length (ways g types)
-unfolding waySizes
-all-empty g types =
-    length-keep-map-all (λ n. leb 0 n && leb n 0) (λ m. taken m (replicate 8 0)) (ways g types)
-    (λ m. ap (λ n. leb 0 n && leb n 0) (taken-of-zeros m 8))
-
--- all ways fit where as many fit as there are
-pub within-by-length : (lo hi g types : ℕ) (xs : List ℕ)
-    → within lo hi (waySizes g types xs) ≡ eqb (length (keep (λ n. leb lo n && leb n hi) (waySizes g types xs))) (length (ways g types))
-unfolding within waySizes
-within-by-length lo hi g types xs = rw (every-by-length, length-map)
-
 -- ---- the steps of the walk, in the code's terms
 
 pub start-place : {g : ℕ} → g ≤ 8 → Place g 0
@@ -225,11 +128,7 @@ start-place {g} h = record { groups = h; chosen = pow-pos (8 - g) }
 pub start-carried : (g : ℕ) (xs : List ℕ) → Carried g 0 0 xs
 start-carried g xs = record { added = sym (taken-none (drop g xs)); small = omega arith }
 
--- where no group is left, the sum is the mask's own figure, and what is carried is all that the mask takes
-pub sumFrom-none : (types : ℕ) (f : ℕ → ℕ) (m : ℕ) {left : ℕ} → left ≡ 0 → sumFrom types f left m ≡ cond (nominated types (ones m)) (f m) 0
-unfolding sumFrom
-sumFrom-none types f m none = ap (λ k. sumFrom types f k m) none
-
+-- where no group is left, what is carried is all that the mask takes
 pub carried-all : {left m total : ℕ} {xs : List ℕ} → left ≡ 0 → Carried left m total xs → total ≡ taken m xs
 carried-all {m = m} {xs = xs} none c = c .added ∙ ap (λ k. taken m (drop k xs)) none
 
@@ -253,12 +152,6 @@ module _ {left : ℕ} (some : left ≡ 0 → ⊥) where
 
   pub place-without : {m : ℕ} → Place left m → Place (left - 1) (m * 2)
   place-without p = record { groups = omega arith; chosen = omega (arith, doubled (p .groups)) }
-
-  -- the sum over the masks that take the next group and that over those that leave it
-  pub sumFrom-both : (types : ℕ) (f : ℕ → ℕ) (m : ℕ) {a b : ℕ} → a ≡ sumFrom types f (left - 1) (m * 2 + 1)
-      → b ≡ sumFrom types f (left - 1) (m * 2) → a + b ≡ sumFrom types f left m
-  unfolding sumFrom
-  sumFrom-both types f m d e = ap₂ _+_ d e ∙ ap (λ k. sumFrom types f k m) next
 
   module _ {m total : ℕ} {xs : List ℕ} where
     pub carried-with : left ≤ 8 → Carried left m total xs → getD xs (left - 1) 0 ≤ 255

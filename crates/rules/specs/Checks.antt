@@ -8,8 +8,9 @@ use lib.Dec.{ltb, leb, eqb}
 use lib.ListN.{length, take}
 use Rattle.rules.specs.Lists.{every}
 use Rattle.rules.specs.Kinds.{kindOf, isSpecialOne, sizesFit}
-use Rattle.rules.specs.Ways.{sizes, ways, waySizes}
+use Rattle.rules.specs.Ways.{sizes, sizeWord, ways, waySizes}
 use Rattle.rules.specs.Price.{chargeLimit, paidGames, stakeFits, charge}
+use Rattle.rules.specs.Settle.{jackpotBy}
 use Rattle.rules.specs.declared.check.Quote.{Quote}
 
 -- the operands of Sell, as the caller gives them
@@ -53,9 +54,16 @@ operandRows o =
 unfoldable pub operandCode : Operands → ℕ
 operandCode o = firstMet (operandRows o)
 
--- what a writer is told of a sale: the ways and the charge, or the refusal
+-- the jackpot that the operands play for
+abbrev pub jackpotOf : Operands → ℕ
+jackpotOf o =
+    jackpotBy
+    (record { kind = kindOf (o .kind); games = o .games; stake = o .stake; groups = o .groups; types = o .types })
+    (sizes (o .marks))
+
+-- what a sale is told: the charge, and what the ticket keeps of its operands; or the refusal
 unfoldable pub quoteOf : Operands → Quote
 quoteOf o =
     cond (eqb (operandCode o) 0)
-    (record { code = 0; ways = wayCount o; charge = chargeOf o })
-    (record { code = operandCode o; ways = 0; charge = 0 })
+    (record { code = 0; ways = wayCount o; charge = chargeOf o; jackpot = jackpotOf o; sizes = sizeWord (sizes (o .marks)) })
+    (record { code = operandCode o; ways = 0; charge = 0; jackpot = 0; sizes = 0 })

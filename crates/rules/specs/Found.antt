@@ -1,6 +1,6 @@
 -- What one pass over a ticket's ways finds in a drawn game, as the code carries it and stores it. Only contracts speak of these; the laws in
 -- proofs/FoundLaws join them to the rule's prizes.
-use Prim.Native.Nat.{ℕ, suc, _+_, _*_, _-_, _/_, _%_, _^_, _≤_, _<_, min}
+use Prim.Native.Nat.{ℕ, zero, suc, _+_, _*_, _-_, _/_, _%_, _^_, _≤_, _<_, min}
 use mathlib.Core.Path.{_≡_}
 use mathlib.Core.Bool.{Bool, cond}
 use mathlib.Core.List.{List, [], _∷_, map}
@@ -8,11 +8,12 @@ use lib.Dec.{eqb}
 use lib.ListN.{length, drop, getD}
 use lib.Seq.{sets}
 use Rattle.rules.specs.Lists.{sum, keep}
-use Rattle.rules.specs.Ways.{taken}
+use Rattle.rules.specs.Ways.{hits, taken}
 use Rattle.rules.specs.Prize.{majorFloor, isMajor, prize}
 use Rattle.rules.specs.Settle.{prizesBy, fullBy}
 use Rattle.rules.specs.Passes.{waysFrom}
 use Rattle.rules.specs.declared.terms.Kind.{Kind}
+use Rattle.rules.specs.declared.terms.Draw.{Draw}
 use Rattle.rules.specs.declared.terms.Terms.{Terms}
 use Rattle.rules.specs.declared.found.Found.{Found}
 
@@ -36,6 +37,20 @@ pub record Groups (table : List ℕ) : Type 0 where
   pub long : length table ≡ 9
   pub sizes : (k : ℕ) → sizeIn (getD table k 0) ≤ 255
   pub hits : (k : ℕ) → hitsIn (getD table k 0) ≤ 255
+
+-- the sizes in a word, so many of them, and a table of groups of these sizes with no ball drawn
+abbrev pub wordSizes : ℕ → ℕ → List ℕ
+wordSizes zero word = []
+wordSizes (suc n) word = word % 256 ∷ wordSizes n (word / 256)
+
+abbrev pub sizeTable : ℕ → List ℕ
+sizeTable word = 0 ∷ map (λ size. size * 4096) (wordSizes 8 word)
+
+-- the table of a ticket's groups, from the word of their sizes and the ticket's marks
+pub record GroupsOf (word : ℕ) (draw : Draw) (marks table : List ℕ) : Type 0 where
+  pub groups : Groups table
+  pub sizes : groupSizes table ≡ wordSizes 8 word
+  pub hits : groupHits table ≡ hits draw marks
 
 -- what the walk carries to a place: the groups taken so far, added
 pub record Carries (left mask pair : ℕ) (table : List ℕ) : Type 0 where

@@ -11,3 +11,4 @@ pub mod Settle
 pub mod Bounds
 pub mod Passes
 pub mod Found
+pub mod Rounds

@@ -1,17 +1,17 @@
--- What the code computes of a ticket in one pass over its ways, before any cut and in a round of it, and the state that it carries from one
--- round to the next. The laws in proofs/ join these to the definitions above: no prize is ever stored.
-use Prim.Native.Nat.{ℕ, zero, suc, _+_, _*_, _-_, _/_, _%_, _^_, _≤_, _<_, max}
+-- The walk over a ticket's ways as the code takes it, and what a sale sees in it. Only contracts speak of these; the laws in proofs/WalkLaws and
+-- proofs/SurveyLaws join them to the ways themselves.
+use Prim.Native.Nat.{ℕ, zero, suc, _+_, _*_, _/_, _%_, _^_, _<_, min, max}
 use mathlib.Core.Path.{_≡_}
-use mathlib.Core.Bool.{Bool, cond, not, _&&_}
-use mathlib.Core.List.{List, [], _∷_, _++_, map, List·Memᴰ}
-use lib.Dec.{ltb, leb, eqb}
-use lib.ListN.{length, take, drop}
+use mathlib.Core.Bool.{Bool, cond, not}
+use mathlib.Core.List.{List, [], _∷_, _++_, map}
+use lib.Dec.{eqb}
+use lib.ListN.{length, getD, drop}
 use lib.Count.{ones}
-use Rattle.rules.specs.Lists.{sum, keep}
-use Rattle.rules.specs.Ways.{nominated, taken}
-use Rattle.rules.specs.Prize.{prizeLimit, majorFloor, isMajor}
-use Rattle.rules.specs.Cut.{payout}
-use Rattle.rules.specs.declared.cut.Cut.{Cut}
+use Rattle.rules.specs.Kinds.{kindOf}
+use Rattle.rules.specs.Ways.{sizes, sizeWord, nominated, taken, waySizes}
+use Rattle.rules.specs.Checks.{Operands, firstMet, operandRows, operandCode}
+use Rattle.rules.specs.declared.terms.Kind.{Kind}
+use Rattle.rules.specs.declared.survey.Survey.{Survey}
 
 -- The ways that begin with the groups in a mask, where so many groups are left to take or to leave. Leaving comes first, so that the masks
 -- rise.
@@ -24,70 +24,37 @@ waysFrom types (suc left) mask = waysFrom types left (mask * 2) ++ waysFrom type
 unfoldable pub nominable : ℕ → ℕ → ℕ → Bool
 nominable types taken left = not (eqb (types * 2 / 2 ^ taken % 2 ^ (left + 1)) 0)
 
--- A figure summed over the ways that begin with a choice of groups, the mask m, where so many groups are left to take or to leave.
-unfoldable pub sumFrom : ℕ → (ℕ → ℕ) → ℕ → ℕ → ℕ
-sumFrom types f zero m = cond (nominated types (ones m)) (f m) 0
-sumFrom types f (suc left) m = sumFrom types f left (m * 2 + 1) + sumFrom types f left (m * 2)
+-- ---- a sale's one look at its ways
 
--- 1 for a way that selects from lo to hi numbers, from the sizes of the groups, and 0 for another
-abbrev pub sizeBetween : ℕ → ℕ → List ℕ → ℕ → ℕ
-sizeBetween lo hi sizes m = cond (leb lo (taken m sizes) && leb (taken m sizes) hi) 1 0
+-- the sizes of the ways that begin so, from the sizes of the groups
+abbrev pub sizesFrom : ℕ → List ℕ → ℕ → ℕ → List ℕ
+sizesFrom types sizes left mask = map (λ m. taken m sizes) (waysFrom types left mask)
 
--- ---- in a cut game. F as the prizes below a bound, with the size of F and B: what the code keeps of a cut
+-- one way more, which selects so many numbers
+abbrev pub noted : Survey → ℕ → Survey
+noted s size = record { count = s .count + 1; least = min (s .least) size; most = max (s .most) size }
 
--- F empty, and B the sum of all major prizes
-abbrev pub firstCut : ℕ → Cut
-firstCut base = record { below = 0; count = 0; base = base }
+unfoldable pub surveyFrom : Survey → List ℕ → Survey
+surveyFrom s [] = s
+surveyFrom s (size ∷ sizes) = surveyFrom (noted s size) sizes
 
--- F empty, and every prize its own part of the limit, so that it is paid in full
-abbrev pub uncut : Cut
-uncut = record { below = 0; count = 0; base = prizeLimit }
+-- how many, the smallest and the largest of them. Where there are none, every test of a size from a byte to another is passed.
+abbrev pub surveyOf : List ℕ → Survey
+surveyOf sizes = surveyFrom (record { count = 0; least = 255; most = 0 }) sizes
 
--- A, or 0 where it is below zero
-abbrev pub shareable : Cut → ℕ
-shareable c = prizeLimit - majorFloor * c .count
+-- the same in a table with a place for each
+abbrev pub surveyIn : List ℕ → Survey
+surveyIn table = record { count = getD table 0 0; least = getD table 1 0; most = getD table 2 0 }
 
--- what a prize pays under such a state. A prize outside F is a part of B, so that it is no more than B.
-unfoldable pub payUnder : Cut → ℕ → ℕ
-payUnder c p =
-    cond (isMajor p)
-    (cond (ltb p (c .below)) majorFloor (cond (leb p (c .base)) (p * shareable c / c .base) (shareable c)))
-    p
+-- a table with room for the count of those ways
+pub record Unfilled (sizes table : List ℕ) : Type 0 where
+  pub room : getD table 0 0 + length sizes < 2 ^ 32
 
--- the bound below which a prize is in F after one more round: p × A < 20,000 × B, or any p where A is 0 or less
-unfoldable pub nextBelow : Cut → ℕ
-nextBelow c =
-    max (c .below)
-    (cond (leb 250 (c .count)) (c .base + 1)
-    (majorFloor * (c .base / shareable c) + (majorFloor * (c .base % shareable c) + (shareable c - 1)) / shareable c))
-
--- F the prizes of a list that are below a bound
-abbrev pub cutBelow : ℕ → List ℕ → Cut
-cutBelow bound ps =
-    record { below = bound; count = length (keep (λ p. ltb p bound) ps); base = sum (keep (λ p. leb bound p) ps) }
-
--- a state under which each of a game's major prizes is paid what the rule says
-pub record Pays (c : Cut) (ps : List ℕ) : Type 0 where
-  pub each : (p : ℕ) → List·Memᴰ p ps → payUnder c p ≡ payout ps p
-
--- ---- major prizes in a table
-
--- the first prizes of a table: each a major one, whose product with all that there is to share fits
-pub record Listed (table : List ℕ) (count : ℕ) : Type 0 where
-  pub few : count ≤ 250
-  pub long : length table ≡ 250
-  pub large : (p : ℕ) → List·Memᴰ p (take count table) → majorFloor ≤ p
-  pub small : (p : ℕ) → List·Memᴰ p (take count table) → p < 2 ^ 40
-
--- prizes that make so many cents, which pass the limit
-pub record PastLimit (ps : List ℕ) (cents : ℕ) : Type 0 where
-  pub total : cents ≡ sum ps
-  pub past : prizeLimit < cents
-
--- prizes of a table, from a place on and so many, that are paid from the floor to the limit
-pub record Raised (c : Cut) (table : List ℕ) (from many : ℕ) : Type 0 where
-  pub inside : from + many ≤ 250
-  pub long : length table ≡ 250
-  pub small : (p : ℕ) → List·Memᴰ p (take many (drop from table)) → p < 2 ^ 40
-  pub least : (p : ℕ) → List·Memᴰ p (take many (drop from table)) → majorFloor ≤ payUnder c p
-  pub most : (p : ℕ) → List·Memᴰ p (take many (drop from table)) → payUnder c p ≤ prizeLimit
+-- what is known of a sale where its ways are looked at: the checks before are passed
+pub record LookedAt (o : Operands) (k : Kind) (g s : ℕ) (seen : Survey) (w : ℕ) : Type 0 where
+  pub kind : k ≡ kindOf (o .kind)
+  pub games : g ≡ o .games
+  pub stake : s ≡ o .stake
+  pub survey : seen ≡ surveyOf (waySizes (o .groups) (o .types) (sizes (o .marks)))
+  pub word : w ≡ sizeWord (sizes (o .marks))
+  pub passed : operandCode o ≡ firstMet (drop 5 (operandRows o))

@@ -31,6 +31,11 @@ sizes marks = byGroup (sizeOf marks)
 abbrev pub hits : Draw → List ℕ → List ℕ
 hits draw marks = byGroup (hitsOf draw marks)
 
+-- bytes in one number, the first of them lowest: so a ticket keeps the sizes of its groups
+unfoldable pub sizeWord : List ℕ → ℕ
+sizeWord [] = 0
+sizeWord (x ∷ xs) = sizeWord xs * 256 + x
+
 -- bit k-1 of the types byte
 unfoldable pub nominated : ℕ → ℕ → Bool
 nominated types zero = false

@@ -1,38 +1,43 @@
 // The operand checks of Sell.
 use crate::marks::group_sizes;
+use crate::marks::size_word;
 use crate::price::charge_of;
 use crate::price::paid_games;
 use crate::price::stake_fits;
+use crate::survey::Survey;
+use crate::survey::survey_ways;
 use crate::terms::Kind;
-use crate::terms::Schedule;
-use crate::ways::all_between;
-use crate::ways::number_of_ways;
 ghost use mathlib.Core.Path.{_≡_};
 ghost use mathlib.Core.Bool.{not, _&&_, _||_};
 ghost use Prim.Native.Nat.{_^_};
 ghost use lib.Dec.{leb, eqb};
 ghost use lib.ListN.{take};
 ghost use Rattle.rules.specs.Lists.{every};
-ghost use Rattle.rules.specs.Kinds.{isSpecialOne, sizesFit};
-ghost use Rattle.rules.specs.Ways.{waySizes};
-ghost use Rattle.rules.specs.Checks.{marksFit, quoteOf};
-ghost use Rattle.rules.specs.Bounds.{Grouped};
+ghost use Rattle.rules.specs.Kinds.{isSpecialOne};
+ghost use Rattle.rules.specs.Checks.{Operands, quoteOf};
+ghost use Rattle.rules.specs.Bounds.{Grouped, Counted};
+ghost use Rattle.rules.specs.Passes.{LookedAt};
 
-// A sale's operands, checked: 0 with the number of ways and the charge, or the refusal's number.
+// A sale's operands, checked: 0 with the number of ways, the charge, the jackpot that they play for and the sizes of the groups in one word, or
+// the refusal's number.
 pub struct Quote {
     pub code: u8,
     pub ways: u32,
     pub charge: u32,
+    pub jackpot: u8,
+    pub sizes: u64,
 }
 
 // A refusal, which has no figures.
 fn refused(code: u8) -> Quote
-    ensures { λ r. ⌜ r ≡ record { code = code; ways = 0; charge = 0 } ⌝ }
+    ensures { λ r. ⌜ r ≡ record { code = code; ways = 0; charge = 0; jackpot = 0; sizes = 0 } ⌝ }
 {
     Quote {
         code,
         ways: 0,
         charge: 0,
+        jackpot: 0,
+        sizes: 0,
     }
 }
 
@@ -75,18 +80,15 @@ fn none_empty(groups: u8, sizes: [u8; 8]) -> bool
     true
 }
 
-// Whether there are 80 marks, none over the number of groups, and every group has a number.
-fn marks_fit(groups: u8, marks: &[u8]) -> bool
+// Whether no mark is over the number of groups, and every group has a number.
+fn groups_fit(groups: u8, marks: &[u8], sizes: [u8; 8]) -> bool
     requires { ⌜ Grouped groups ⌝ }
-    ensures { λ r. ⌜ r ≡ marksFit groups (now (marks .entry)) ⌝ }
+    ensures { λ r. ⌜ r ≡ (every (λ m. leb m groups) (now (marks .entry)) && every (λ n. not (eqb n 0)) (take groups sizes)) ⌝ }
 {
-    if marks.len() != 80 {
-        return false;
-    }
     if !marks_within(marks, groups) {
         return false;
     }
-    none_empty(groups, group_sizes(marks))
+    none_empty(groups, sizes)
 }
 
 // Whether the types byte nominates something, and nothing of more groups than there are.
@@ -100,26 +102,6 @@ fn types_fit(groups: u8, types: u8) -> bool
     (types as u32) >> groups == 0
 }
 
-// Whether the ways' sizes suit the kind.
-fn sizes_fit(kind: Kind, groups: u8, types: u8, sizes: [u8; 8]) -> bool
-    requires { ⌜ Grouped groups ⌝ }
-    ensures { λ r. ⌜ r ≡ sizesFit kind (waySizes groups types sizes) ⌝ }
-{
-    match kind {
-        Kind::Standard => all_between(groups, types, sizes, 1, 15),
-        Kind::Jackpot => {
-            if all_between(groups, types, sizes, 6, 6) {
-                return true;
-            }
-            all_between(groups, types, sizes, 8, 8)
-        }
-        Kind::Special(s) => match s {
-            Schedule::One => all_between(groups, types, sizes, 1, 15),
-            Schedule::Two => all_between(groups, types, sizes, 3, 6),
-        },
-    }
-}
-
 // Whether a Special One ticket has one way only.
 fn lone_special(kind: Kind, count: u32) -> bool
     ensures { λ r. ⌜ r ≡ isSpecialOne kind && eqb count 1 ⌝ }
@@ -128,6 +110,34 @@ fn lone_special(kind: Kind, count: u32) -> bool
         return count == 1;
     }
     false
+}
+
+// The checks from 12 on, which look at the ways.
+fn quote_ways(kind: Kind, games: u8, stake: u32, survey: Survey, word: u64) -> Quote
+    requires { ⌜ Counted (survey .count) ⌝ }
+    ensures { λ r. ⌜ ((o : Operands) → LookedAt o kind games stake survey word → r ≡ quoteOf o) ⌝ }
+{
+    if !survey.suits(kind) {
+        return refused(12);
+    }
+    let count = survey.count;
+    if lone_special(kind, count) {
+        return refused(13);
+    }
+    if !stake_fits(kind, count, stake) {
+        return refused(14);
+    }
+    let charge = charge_of(stake, count, paid_games(games));
+    if 999_900 < charge {
+        return refused(15);
+    }
+    Quote {
+        code: 0,
+        ways: count,
+        charge: charge as u32,
+        jackpot: survey.jackpot(kind),
+        sizes: word,
+    }
 }
 
 // The checks in the order of their numbers: the first that is not passed refuses the sale.
@@ -143,31 +153,16 @@ pub fn quote_for(kind: u8, games: u8, stake: u32, groups: u8, types: u8, marks: 
     if !between(groups, 1, 8) {
         return refused(9);
     }
-    if !marks_fit(groups, marks) {
+    if marks.len() != 80 {
+        return refused(10);
+    }
+    let sizes = group_sizes(marks);
+    if !groups_fit(groups, marks, sizes) {
         return refused(10);
     }
     if !types_fit(groups, types) {
         return refused(11);
     }
-    let entry = Kind::of(kind);
-    let sizes = group_sizes(marks);
-    if !sizes_fit(entry, groups, types, sizes) {
-        return refused(12);
-    }
-    let count = number_of_ways(groups, types);
-    if lone_special(entry, count) {
-        return refused(13);
-    }
-    if !stake_fits(entry, count, stake) {
-        return refused(14);
-    }
-    let charge = charge_of(stake, count, paid_games(games));
-    if 999_900 < charge {
-        return refused(15);
-    }
-    Quote {
-        code: 0,
-        ways: count,
-        charge: charge as u32,
-    }
+    let survey = survey_ways(groups, types, &sizes);
+    quote_ways(Kind::of(kind), games, stake, survey, size_word(sizes))
 }

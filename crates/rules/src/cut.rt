@@ -2,7 +2,7 @@
 ghost use mathlib.Core.Path.{_≡_};
 ghost use Prim.Native.Nat.{_+_, _*_, _-_, _/_, _%_, max};
 ghost use Rattle.rules.specs.Bounds.{Payable, Cuttable, Divided};
-ghost use Rattle.rules.specs.Passes.{firstCut, uncut, payUnder, nextBelow};
+ghost use Rattle.rules.specs.Rounds.{firstCut, uncut, payUnder, nextBelow};
 
 // A round of the cut: the floored prizes are those below `below`, `count` of them, and the others make `base` cents.
 pub struct Cut {
@@ -36,7 +36,7 @@ impl Cut {
 
     // What the prizes outside the floored share, 0 where the floored take it all.
     fn shareable(self) -> u64
-        ensures { λ r. ⌜ r ≡ Rattle.rules.specs.Passes.shareable self ⌝ }
+        ensures { λ r. ⌜ r ≡ Rattle.rules.specs.Rounds.shareable self ⌝ }
     {
         let count = self.count;
         if count < 250 {

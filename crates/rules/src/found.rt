@@ -66,8 +66,7 @@ fn find_mask(
     find_way(pair, kind, stake, found, majors);
 }
 
-// Adds the figures of the ways that begin with the groups in the mask, where `left` groups are left to take or to leave. Whether any is a way
-// is asked only where that can save more than the count of ones costs.
+// Adds the figures of the ways that begin with the groups in the mask, where `left` groups are left to leave or to take.
 fn find_from(
     left: usize,
     mask: u32,
@@ -86,7 +85,7 @@ fn find_from(
         find_mask(mask, pair, kind, stake, types, found, majors);
         return;
     }
-    if 3 <= left && !ways::can_nominate(types, mask, left) {
+    if ways::ends_here(types, mask, left) {
         return;
     }
     let after = left - 1;

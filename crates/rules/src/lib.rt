@@ -9,5 +9,6 @@ pub mod marks;
 pub mod price;
 pub mod prize;
 pub mod schedule;
+pub mod survey;
 pub mod terms;
 pub mod ways;

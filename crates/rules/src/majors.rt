@@ -7,7 +7,7 @@ ghost use Prim.Native.Nat.{_-_};
 ghost use lib.ListN.{length, take, drop};
 ghost use Rattle.rules.specs.Lists.{sum};
 ghost use Rattle.rules.specs.Prize.{majorFloor};
-ghost use Rattle.rules.specs.Passes.{payUnder, cutBelow, Pays, Listed, PastLimit, Raised};
+ghost use Rattle.rules.specs.Rounds.{payUnder, cutBelow, Pays, Listed, PastLimit, Raised};
 
 // The first prizes of the table together.
 fn sum_of(majors: &[u64; 250], count: usize) -> u64

@@ -7,9 +7,9 @@ use mathlib.Core.List.{List, [], _∷_, _++_}
 use lib.Dec.{eqb}
 use lib.ListN.{length, take}
 use borrow.Author.Tests.{eqb-true, eq-eqb, ne-eqb, le-leb, lt-leb, lt-ltb, le-ltb}
-use Rattle.rules.specs.Ways.{sizes}
+use Rattle.rules.specs.Ways.{sizes, sizeWord}
 use Rattle.rules.specs.Price.{paidGames}
-use Rattle.rules.specs.Checks.{Operands, firstMet, operandRows, operandCode, wayCount, chargeOf, quoteOf}
+use Rattle.rules.specs.Checks.{Operands, firstMet, operandRows, operandCode, wayCount, chargeOf, jackpotOf, quoteOf}
 use Rattle.rules.specs.Settle.{jackpotBy}
 use Rattle.rules.specs.declared.check.Quote.{Quote}
 use Rattle.house.specs.Tickets.{Ticket, termsOf}
@@ -92,16 +92,27 @@ module _ (m : Model) (o : Operands) where
 -- ---- the quote
 
 module _ (o : Operands) where
+  -- of operands that pass their checks
+  abbrev pub told : Quote
+  told =
+      record {
+        code = 0;
+        ways = wayCount o;
+        charge = chargeOf o;
+        jackpot = jackpotOf o;
+        sizes = sizeWord (sizes (o .marks));
+      }
+
   pub quoted-code : quoteOf o .code ≡ operandCode o
   unfolding quoteOf
   quoted-code = go (eqb (operandCode o) 0) refl
     where
       go : (b : Bool) → eqb (operandCode o) 0 ≡ b
-          → cond {A = Quote} b (record { code = 0; ways = wayCount o; charge = chargeOf o }) (record { code = operandCode o; ways = 0; charge = 0 }) .code ≡ operandCode o
+          → cond {A = Quote} b told (record { code = operandCode o; ways = 0; charge = 0; jackpot = 0; sizes = 0 }) .code ≡ operandCode o
       go true e = sym (eqb-true (operandCode o) 0 e)
       go false e = refl
 
-  pub quoted : operandCode o ≡ 0 → quoteOf o ≡ record { code = 0; ways = wayCount o; charge = chargeOf o }
+  pub quoted : operandCode o ≡ 0 → quoteOf o ≡ told
   unfolding quoteOf
   quoted e = rw (eq-eqb (operandCode o) 0 e)
 
@@ -119,22 +130,24 @@ soldHouse h charge =
 
 module _ (h : House) (words marks : List ℕ) (o : Operands) where
   pub ticket-sold :
-      (first jackpot paid count : ℕ)
+      (first jackpot word paid count : ℕ)
       → first ≡ nextGame (view h words marks)
       → jackpot ≡ jackpotBy (termsOf o) (sizes (o .marks))
+      → word ≡ sizeWord (sizes (o .marks))
       → paid ≡ paidGames (o .games)
       → count ≡ wayCount o
       → _≡_ {A = Ticket}
-      (record { number = h .issued + 1; operands = o; ways = count; jackpot = jackpot; soldDay = h .day; first = first; stop = first + o .games; free = first + paid; due = 0; finishedDay = 0 })
+      (record { number = h .issued + 1; operands = o; ways = count; jackpot = jackpot; sizes = word; soldDay = h .day; first = first; stop = first + o .games; free = first + paid; due = 0; finishedDay = 0 })
       (soldTicket (view h words marks) o)
   unfolding view
-  ticket-sold first jackpot paid count began played payed counted =
+  ticket-sold first jackpot word paid count began played sized payed counted =
       λ x.
       record {
         number = h .issued + 1;
         operands = o;
         ways = counted x;
         jackpot = played x;
+        sizes = sized x;
         soldDay = h .day;
         first = began x;
         stop = began x + o .games;

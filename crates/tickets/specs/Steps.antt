@@ -9,8 +9,15 @@ use Rattle.house.specs.Tickets.{Ticket, isFinished, isLive, kenoToGoBegun}
 use Rattle.house.specs.View.{without, ticketsOf}
 use mathlib.Core.Path.{_≡_}
 use Rattle.rules.specs.Lists.{sum, keep}
+use Rattle.rules.specs.Checks.{Operands, operandCode, quoteOf}
+use Rattle.rules.specs.declared.check.Quote.{Quote}
 use Rattle.house.specs.Model.{Model}
 use Rattle.house.specs.Commands.{isExpired, expiring}
+
+-- Sell: the quote of operands that pass their checks
+pub record Quoted (q : Quote) (o : Operands) : Type 0 where
+  pub quote : q ≡ quoteOf o
+  pub passed : operandCode o ≡ 0
 
 -- Claim, where the given game is the current one
 abbrev pub claimRows : ℕ → Ticket → List (Bool × ℕ)

@@ -5,23 +5,19 @@ use house::answer::refused;
 use house::rows::Row;
 use house::rows::append_ticket;
 use house::state::House;
+use rules::check::Quote;
 use rules::check::quote_for;
-use rules::marks::group_sizes;
 use rules::price::paid_games;
-use rules::terms::Kind;
-use rules::terms::Terms;
-use rules::ways::jackpot_of;
 ghost use mathlib.Core.Path.{_≡_};
 ghost use mathlib.Core.List.{List};
 ghost use Prim.Native.Nat.{ℕ, _≤_};
-ghost use lib.ListN.{length};
-ghost use Rattle.rules.specs.Ways.{ways};
 ghost use Rattle.rules.specs.Checks.{Operands, operandCode};
 ghost use Rattle.house.specs.Model.{ticketLimit};
 ghost use Rattle.house.specs.Commands.{sell, codeOf, soldTicket};
 ghost use Rattle.house.specs.Balance.{Reached};
 ghost use Rattle.house.specs.View.{view, ticketFrom, InGames};
 ghost use Rattle.house.specs.Parts.{Carried};
+ghost use Rattle.tickets.specs.Steps.{Quoted};
 
 // The refusal's number on an open day, or 0, where `quoted` is that of the operands alone.
 fn sale_code(house: House, games: u8, quoted: u8) -> u8
@@ -45,29 +41,20 @@ fn sale_code(house: House, games: u8, quoted: u8) -> u8
     0
 }
 
-// The row of a new ticket, which makes `count` ways.
+// The row of a new ticket, from the quote of its operands.
 fn sold_row(
     house: House,
-    count: u32,
+    quote: Quote,
     kind: u8,
     games: u8,
     stake: u32,
     groups: u8,
     types: u8,
-    from: &[u8],
 ) -> Row
-    requires { ⌜ InGames house × (house .issued ≤ ticketLimit) × (groups ≤ 8) × (length (now from) ≡ 80) × (count ≡ length (ways groups types)) ⌝ }
-    ensures { λ r. ⌜ ((words marks : List ℕ) → ticketFrom r (now (from .entry)) ≡ soldTicket (view house words marks) (record { kind = kind; games = games; stake = stake; groups = groups; types = types; marks = now (from .entry) })) ⌝ }
+    requires { ⌜ InGames house × (house .issued ≤ ticketLimit) ⌝ }
+    ensures { λ r. ⌜ ((words marks from : List ℕ) → Quoted quote (record { kind = kind; games = games; stake = stake; groups = groups; types = types; marks = from }) → ticketFrom r from ≡ soldTicket (view house words marks) (record { kind = kind; games = games; stake = stake; groups = groups; types = types; marks = from })) ⌝ }
 {
     let first = house.first_game();
-    let terms = Terms {
-        kind: Kind::of(kind),
-        games,
-        stake,
-        groups,
-        types,
-    };
-    let jackpot = jackpot_of(terms, group_sizes(from));
     let paid = paid_games(games);
     Row {
         number: house.issued + 1,
@@ -76,14 +63,15 @@ fn sold_row(
         stake: stake as u64,
         groups: groups as u64,
         types: types as u64,
-        ways: count as u64,
-        jackpot: jackpot as u64,
+        ways: quote.ways as u64,
+        jackpot: quote.jackpot as u64,
         sold: house.day,
         first,
         stop: first + games as u64,
         free: first + paid as u64,
         due: 0,
         finished: 0,
+        sizes: quote.sizes,
     }
 }
 
@@ -111,7 +99,7 @@ pub fn sell_ticket(
     if code != 0 {
         return refused(house, code);
     }
-    let row = sold_row(house, quote.ways, kind, games, stake, groups, types, from);
+    let row = sold_row(house, quote, kind, games, stake, groups, types);
     let live = house.live;
     append_ticket(rows, marks, live as usize, row, from);
     let number = house.issued + 1;

@@ -7,20 +7,19 @@ use native.Mathlib.Omega.{arith}
 use native.Mathlib.Nat.{pos-of-ne-zero}
 use lib.ListN.{length, drop, length-map}
 use lib.Count.{ones}
-use borrow.Author.Tests.{not-true}
 use borrow.Fn.Kinds.{In}
 use borrow.Fn.PlainCycle.{Measures, is, falls, and}
 use Rattle.rules.specs.Ways.{nominated, taken}
 use Rattle.rules.specs.Passes.{waysFrom}
 use Rattle.rules.specs.Found.{pairsFrom, wayOrNone, Room, JoinedWays}
 use Rattle.rules.proofs.WayLaws.{mask-lt, place-end, place-with, place-without}
-use Rattle.rules.proofs.WalkLaws.{map-end, map-step, none-nominable}
+use Rattle.rules.proofs.WalkLaws.{map-end, map-step}
 use Rattle.rules.proofs.FoundLaws.{no-ways, ways-both, room-first, room-second, carries-end, group-small, carries-with, carries-without}
 use Rattle.rules.proofs.found.find_from.Reads as find-from
 use Rattle.rules.proofs.found.find_from.Kinds as kinds
 use Rattle.rules.proofs.found.+find_from.Lts-find_from as lts
 use Rattle.rules.proofs.found.find_mask.Reads as find-mask
-use Rattle.rules.proofs.ways.can_nominate.Reads as can-nominate
+use Rattle.rules.proofs.ways.ends_here.Reads as ends-here
 use Rattle.rules.proofs.found.+find_from.{statement}
 use Rattle.rules.proofs.found.+find_from.Tie.{close}
 
@@ -44,7 +43,7 @@ module _ (t : ℕ) where
 
   abbrev called : lts.Claims
   called =
-      (find-mask.Asked, find-mask.Learnt, can-nominate.Asked, can-nominate.Learnt, and 3 kinds.ps (falls 3 kinds.ps _<_ μ t) find-from.Pre, find-from.Post)
+      (find-mask.Asked, find-mask.Learnt, ends-here.Asked, ends-here.Learnt, and 3 kinds.ps (falls 3 kinds.ps _<_ μ t) find-from.Pre, find-from.Post)
 
   -- where no group is left, the mask is the only way, or there is none
   own : (c : lts.Then1 called given find-from.Post)
@@ -85,26 +84,25 @@ module _ (t : ℕ) where
   returns : lts.Need-returns called given find-from.Post
   returns c = rw (own (c .before .before .before)) (c .find-mask .ensures)
 
-  can-nominate-requires : lts.Need-can-nominate-requires called given find-from.Post
-  can-nominate-requires c κs = c .before .before .pre .1 .0
+  ends-here-requires : lts.Need-ends-here-requires called given find-from.Post
+  ends-here-requires c κs = c .before .pre .1 .0
 
   returns-2 : lts.Need-returns-2 called given find-from.Post
   returns-2 c =
-      let asked = c .before in
-      let a = asked .before .before .before .args in
-      let none = none-nominable (a .types) (a .left) (a .mask) (sym (asked .can-nominate .ensures) ∙ not-true _ (c .if3 .taken)) in
-      subst (λ (l : List ℕ). JoinedWays (a .kind) (a .stake) (map (λ k. taken k (drop 1 (a .groups .now))) l) (a .found .now) (a .majors .now) (a .found .now) (a .majors .now)) (sym none)
+      let a = c .before .before .before .args in
+      subst (λ (l : List ℕ). JoinedWays (a .kind) (a .stake) (map (λ k. taken k (drop 1 (a .groups .now))) l) (a .found .now) (a .majors .now) (a .found .now) (a .majors .now))
+      (sym (c .before .ends-here .ensures (c .if2 .taken)))
       (no-ways (a .kind) (a .stake) (a .found .now) (a .majors .now))
 
   sub-after : lts.Need-sub-after called given find-from.Post
-  sub-after c = pos-of-ne-zero (c .before .if1 .left)
+  sub-after c = pos-of-ne-zero (c .before .before .if1 .left)
 
   mul-find-from : lts.Need-mul-find-from called given find-from.Post
-  mul-find-from c = omega (arith, mask-lt (c .before .before .pre .1 .0))
+  mul-find-from c = omega (arith, mask-lt (c .before .before .before .pre .1 .0))
 
   find-from-requires : lts.Need-find-from-requires called given find-from.Post
   find-from-requires c κs =
-      let else = c .before .before .before in
+      let else = c .before .before .before .before in
       let some = else .if1 .left in
       let start = else .before in
       let a = start .args in
@@ -120,27 +118,27 @@ module _ (t : ℕ) where
       )
 
   mul-more : lts.Need-mul-more called given find-from.Post
-  mul-more c = omega (arith, c .before .before .before .before .before .pre .1 .0 .groups)
+  mul-more c = omega (arith, c .before .before .before .before .before .before .pre .1 .0 .groups)
 
   element-copy-out-more : lts.Need-element-copy-out-more called given find-from.Post
-  element-copy-out-more c = omega (arith, c .before .before .before .before .before .pre .1 .0 .groups)
+  element-copy-out-more c = omega (arith, c .before .before .before .before .before .before .pre .1 .0 .groups)
 
   add-more : lts.Need-add-more called given find-from.Post
   add-more c =
-      let else = c .before .before .before .before .before in
+      let else = c .before .before .before .before .before .before in
       let start = else .before in
       omega (arith, start .pre .1 .2 .small, group-small (start .args .groups .now) (start .pre .1 .1) (start .args .left), pos-of-ne-zero (else .if1 .left))
 
   mul-find-from-2 : lts.Need-mul-find-from-2 called given find-from.Post
-  mul-find-from-2 c = omega (arith, mask-lt (c .before .before .before .before .before .before .pre .1 .0))
+  mul-find-from-2 c = omega (arith, mask-lt (c .before .before .before .before .before .before .before .pre .1 .0))
 
   add-find-from : lts.Need-add-find-from called given find-from.Post
-  add-find-from c = omega (arith, mask-lt (c .before .before .before .before .before .before .pre .1 .0))
+  add-find-from c = omega (arith, mask-lt (c .before .before .before .before .before .before .before .pre .1 .0))
 
   find-from-requires-2 : lts.Need-find-from-requires-2 called given find-from.Post
   find-from-requires-2 c κs =
       let first = c .before .before .before in
-      let else = first .before .before .before .before in
+      let else = first .before .before .before .before .before in
       let some = else .if1 .left in
       let start = else .before in
       let a = start .args in
@@ -158,7 +156,7 @@ module _ (t : ℕ) where
   returns-3 : lts.Need-returns-3 called given find-from.Post
   returns-3 c =
       let first = c .before .before .before .before in
-      let else = first .before .before .before .before in
+      let else = first .before .before .before .before .before in
       let a = else .before .args in
       rw (parts else)
       (ways-both (a .kind) (a .stake) (pairsFrom (a .types) (a .groups .now) (a .left - 1) (a .mask * 2)) (pairsFrom (a .types) (a .groups .now) (a .left - 1) (a .mask * 2 + 1)) (first .find-from .ensures) (c .find-from2 .ensures))
@@ -169,7 +167,7 @@ pub +find-from-spec : {M : Type 1} → statement M
     lts.spec (called t) (given t) find-from.Post
     (find-mask-requires t)
     (returns t)
-    (can-nominate-requires t)
+    (ends-here-requires t)
     (returns-2 t)
     (sub-after t)
     (mul-find-from t)

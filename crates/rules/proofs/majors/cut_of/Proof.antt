@@ -3,7 +3,7 @@ use mathlib.Core.Path.{sym, subst}
 use native.Mathlib.Omega.{arith}
 use lib.ListN.{take}
 use borrow.Author.Needs.{needs}
-use Rattle.rules.specs.Passes.{Pays}
+use Rattle.rules.specs.Rounds.{Pays}
 use Rattle.rules.specs.declared.cut.Cut.{Cut}
 use Rattle.rules.proofs.MajorLaws.{uncut-pays}
 use Rattle.rules.proofs.majors.cut_of.Statement.{statement}

@@ -8,7 +8,7 @@ use borrow.Author.Needs.{needs}
 use Rattle.rules.specs.Lists.{sum}
 use Rattle.rules.specs.Prize.{prizeLimit}
 use Rattle.rules.specs.Bounds.{Cuttable}
-use Rattle.rules.specs.Passes.{nextBelow, cutBelow, Listed}
+use Rattle.rules.specs.Rounds.{nextBelow, cutBelow, Listed}
 use Rattle.rules.specs.declared.cut.Cut.{Cut}
 use Rattle.rules.proofs.MajorLaws.{Follows, first-follows, round-follows, round-grows, last-pays, rest-small, total-small}
 use Rattle.rules.proofs.majors.last_round.Statement.{statement}

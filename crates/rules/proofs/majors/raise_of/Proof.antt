@@ -6,7 +6,7 @@ use native.Mathlib.Omega.{arith}
 use lib.ListN.{length, take, drop, getD}
 use borrow.Author.Needs.{needs}
 use Rattle.rules.specs.Prize.{prizeLimit, majorFloor}
-use Rattle.rules.specs.Passes.{payUnder}
+use Rattle.rules.specs.Rounds.{payUnder}
 use Rattle.rules.proofs.KeepLaws.{sum-within}
 use Rattle.rules.proofs.MajorLaws.{part-length, part-member, Summed, summed-none, summed-more, summed-le, summed-all}
 use Rattle.rules.proofs.majors.raise_of.Statement.{statement}

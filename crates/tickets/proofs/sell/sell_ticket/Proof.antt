@@ -4,7 +4,7 @@ use Prim.Native.Nat.{_+_, _<_}
 use native.Mathlib.Omega.{arith}
 use mathlib.Core.Path.{_≡_, refl, sym, ap, _∙_}
 use borrow.Author.Needs.{needs}
-use Rattle.rules.specs.Checks.{Operands, wayCount, chargeOf}
+use Rattle.rules.specs.Checks.{Operands}
 use Rattle.house.specs.Model.{Model, liveLimit}
 use Rattle.house.specs.Commands.{sell, codeOf, act, reply, replies}
 use Rattle.house.specs.Till.{tillOf}
@@ -12,7 +12,7 @@ use Rattle.house.specs.View.{view}
 use Rattle.house.proofs.Refusals.{SellAccepted, sell-accepted, OperandsAccepted, operands-accepted}
 use Rattle.house.proofs.ReachedHouses.{Sure, reached-sure}
 use Rattle.house.proofs.ViewLaws.{carried-refused, carried-done, live-count}
-use Rattle.tickets.proofs.SellLaws.{sale-closed, quoted-code, quoted, house-sold}
+use Rattle.tickets.proofs.SellLaws.{sale-closed, told, quoted-code, quoted, house-sold}
 use Rattle.tickets.proofs.sell.sell_ticket.Statement.{statement}
 use Rattle.tickets.proofs.sell.sell_ticket.Tie as tie
 
@@ -48,7 +48,7 @@ allowed c = sell-accepted (entry (begun c)) (sale (begun c)) (passed c)
 fitting : (c : tie.Else2) → OperandsAccepted (sale (begun c))
 fitting c = operands-accepted (sale (begun c)) (allowed c .checked)
 
-priced : (c : tie.Else2) → c .before .before .quote-for .result ≡ record { code = 0; ways = wayCount (sale (begun c)); charge = chargeOf (sale (begun c)) }
+priced : (c : tie.Else2) → c .before .before .quote-for .result ≡ told (sale (begun c))
 priced c = c .before .before .quote-for .ensures ∙ quoted (sale (begun c)) (allowed c .checked)
 
 room : (c : tie.Else2) → begun c .args .house .live < liveLimit
@@ -94,7 +94,7 @@ sold-row-requires : tie.Need-sold-row-requires
 unfolding view
 sold-row-requires c κs =
     let s = sure (begun c) in
-    (record { within = s .game }, s .issued, fitting c .fewGroups, fitting c .eighty, ap (λ q. q .ways) (priced c))
+    (record { within = s .game }, s .issued)
 
 append-ticket-requires : tie.Need-append-ticket-requires
 append-ticket-requires c κs =
@@ -145,7 +145,7 @@ returns-3 c =
     let charged = ap (λ q. q .charge) (priced here) in
     carried-done (args .house) words marks (sell (sale start)) _ words′ marks′ _ (passed here)
     (ap (λ h. view h words′ marks′) (c .accepted .ensures .0)
-    ∙ house-sold (args .house) words marks (sale start) _ words′ marks′ _ (room here) charged (appended .append-ticket .ensures) (made .sold-row .ensures words marks))
+    ∙ house-sold (args .house) words marks (sale start) _ words′ marks′ _ (room here) charged (appended .append-ticket .ensures) (made .sold-row .ensures words marks (args .from .now) (record { quote = here .before .before .quote-for .ensures; passed = allowed here .checked })))
     (c .accepted .ensures .1 ∙ ap (replies (args .house .issued + 1)) charged)
 
 pub sell-ticket-spec : {M : Type 1} → statement M

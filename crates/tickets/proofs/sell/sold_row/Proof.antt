@@ -1,78 +1,68 @@
--- `house::sell::sold_row` meets its contract, field by field.
+-- `tickets::sell::sold_row` meets its contract, field by field: what a quote tells of its operands is what the ticket keeps.
 use native.Mathlib.Omega.{arith}
-use mathlib.Core.Path.{ap₂, _∙_}
+use mathlib.Core.Path.{_≡_, ap, _∙_}
 use mathlib.Core.List.{[]}
 use borrow.Author.Needs.{needs}
 use Rattle.rules.specs.Checks.{Operands}
-use Rattle.rules.specs.Settle.{jackpotBy}
+use Rattle.rules.specs.declared.check.Quote.{Quote}
 use Rattle.house.specs.View.{view}
-use Rattle.tickets.proofs.SellLaws.{next-within, ticket-sold}
+use Rattle.tickets.proofs.SellLaws.{told, quoted, next-within, ticket-sold}
 use Rattle.tickets.proofs.sell.sold_row.Statement.{statement}
 use Rattle.tickets.proofs.sell.sold_row.Tie as tie
 
 first-game-requires : tie.Need-first-game-requires
 first-game-requires c κs = search needs
 
-of-requires : tie.Need-of-requires
-of-requires c κs = search needs
-
-group-sizes-requires : tie.Need-group-sizes-requires
-group-sizes-requires c κs = search needs
-
-jackpot-of-requires : tie.Need-jackpot-of-requires
-jackpot-of-requires c κs = search needs
-
 paid-games-requires : tie.Need-paid-games-requires
 paid-games-requires c κs = search needs
 
-add-t15 : tie.Need-add-t15
-add-t15 c = search needs
+add-t10 : tie.Need-add-t10
+add-t10 c = search needs
 
-cast-t22 : tie.Need-cast-t22
-cast-t22 c = search needs
+cast-t16 : tie.Need-cast-t16
+cast-t16 c = search needs
 
-add-t24 : tie.Need-add-t24
+cast-t17 : tie.Need-cast-t17
+cast-t17 c = search needs
+
+add-t19 : tie.Need-add-t19
 unfolding view
-add-t24 c =
-    let called = c .before .before .before .before .before in
-    omega (arith, called .first-game .ensures [] [], next-within (view (called .before .before .args .house) [] []))
+add-t19 c =
+    let called = c .before .before .before .before in
+    omega (arith, called .first-game .ensures [] [], next-within (view (called .before .args .house) [] []))
 
-cast-t25 : tie.Need-cast-t25
-cast-t25 c = search needs
+cast-t20 : tie.Need-cast-t20
+cast-t20 c = search needs
 
-add-t26 : tie.Need-add-t26
+add-t21 : tie.Need-add-t21
 unfolding view
-add-t26 c =
-    let called = c .before .before .before .before .before in
-    omega (arith, called .first-game .ensures [] [], next-within (view (called .before .before .args .house) [] []))
+add-t21 c =
+    let called = c .before .before .before .before in
+    omega (arith, called .first-game .ensures [] [], next-within (view (called .before .args .house) [] []))
 
 returns : tie.Need-returns
-returns c = λ words marks.
-    let paid = c .before in
-    let played = paid .before in
-    let sized = played .before in
-    let kind = sized .before in
-    let began = kind .before in
-    let args = began .before .before .args in
-    let o : Operands = record { kind = args .kind; games = args .games; stake = args .stake; groups = args .groups; types = args .types; marks = args .from .now } in
-    ticket-sold (args .house) words marks o _ _ _ _ (began .first-game .ensures words marks)
-    (played .jackpot-of .ensures
-    ∙ ap₂ (λ k s. jackpotBy (record { kind = k; games = args .games; stake = args .stake; groups = args .groups; types = args .types }) s) (kind .of .ensures) (sized .group-sizes .ensures))
+returns c = λ words marks from q.
+    let paid = c .before .before .before in
+    let began = paid .before in
+    let args = began .before .args in
+    let o : Operands = record { kind = args .kind; games = args .games; stake = args .stake; groups = args .groups; types = args .types; marks = from } in
+    let same : args .quote ≡ told o = q .quote ∙ quoted o (q .passed) in
+    ticket-sold (args .house) words marks o _ _ _ _ _ (began .first-game .ensures words marks)
+    (ap (λ (t : Quote). t .jackpot) same)
+    (ap (λ (t : Quote). t .sizes) same)
     (paid .paid-games .ensures)
-    (began .before .before .pre .4)
+    (ap (λ (t : Quote). t .ways) same)
 
 pub sold-row-spec : {M : Type 1} → statement M
 sold-row-spec =
     tie.close
     (tie.spec
     first-game-requires
-    of-requires
-    group-sizes-requires
-    jackpot-of-requires
     paid-games-requires
-    add-t15
-    cast-t22
-    add-t24
-    cast-t25
-    add-t26
+    add-t10
+    cast-t16
+    cast-t17
+    add-t19
+    cast-t20
+    add-t21
     returns)

@@ -4,7 +4,7 @@ use Prim.Native.Nat.{_≤_, _<_}
 use borrow.Author.Needs.{needs}
 use borrow.Author.Tests.{le-leb, lt-leb}
 use native.Mathlib.Omega.{arith}
-use Rattle.rules.specs.Passes.{nextBelow}
+use Rattle.rules.specs.Rounds.{nextBelow}
 use Rattle.rules.proofs.cut.Cut.next_below.Statement.{statement}
 use Rattle.rules.proofs.cut.Cut.next_below.Tie as tie
 

@@ -4,7 +4,7 @@ use borrow.Author.Needs.{needs}
 use borrow.Author.Tests.{lt-ltb, le-ltb, le-leb, lt-leb}
 use native.Mathlib.Nat.{mul-le-mul}
 use native.Mathlib.Omega.{arith}
-use Rattle.rules.specs.Passes.{payUnder}
+use Rattle.rules.specs.Rounds.{payUnder}
 use Rattle.rules.proofs.cut.Cut.payout.Statement.{statement}
 use Rattle.rules.proofs.cut.Cut.payout.Tie as tie
 

@@ -1,7 +1,7 @@
--- `sizes_fit` meets its contract: in each arm the definition is what the call counts. Assumes nothing.
+-- `rules::survey::Survey::suits` meets its contract: in each arm the definition is what the call tells.
 use borrow.Author.Needs.{needs}
-use Rattle.rules.proofs.check.sizes_fit.Statement.{statement}
-use Rattle.rules.proofs.check.sizes_fit.Tie as tie
+use Rattle.rules.proofs.survey.Survey.suits.Statement.{statement}
+use Rattle.rules.proofs.survey.Survey.suits.Tie as tie
 
 enum-told : tie.Need-enum-told
 enum-told c = search needs
@@ -16,7 +16,8 @@ all-between-requires-2 : tie.Need-all-between-requires-2
 all-between-requires-2 c κs = search needs
 
 returns : tie.Need-returns
-returns c = rw (c .before .before .enum-told2 .given .1, ← c .before .all-between2 .ensures, c .if1 .taken)
+returns c = λ sizes surveyed.
+    rw (c .before .before .enum-told2 .given .1, ← c .before .all-between2 .ensures sizes surveyed, c .if1 .taken)
 
 all-between-requires-3 : tie.Need-all-between-requires-3
 all-between-requires-3 c κs = search needs
@@ -37,22 +38,23 @@ all-between-requires-5 : tie.Need-all-between-requires-5
 all-between-requires-5 c κs = search needs
 
 returns-2 : tie.Need-returns-2
-returns-2 c = rw (c .before .enum-told .given .1) (c .all-between .ensures)
+returns-2 c = λ sizes surveyed. rw (c .before .enum-told .given .1) (c .all-between .ensures sizes surveyed)
 
 returns-3 : tie.Need-returns-3
-returns-3 c =
-    rw (c .before .before .before .enum-told2 .given .1, ← c .before .before .all-between2 .ensures, c .before .if1 .left) (c .all-between3 .ensures)
+returns-3 c = λ sizes surveyed.
+    rw (c .before .before .before .enum-told2 .given .1, ← c .before .before .all-between2 .ensures sizes surveyed, c .before .if1 .left)
+    (c .all-between3 .ensures sizes surveyed)
 
 returns-4 : tie.Need-returns-4
-returns-4 c =
-    rw (c .before .before .before .before .kind .given .1, c .before .enum-told3 .given .1) (c .all-between4 .ensures)
+returns-4 c = λ sizes surveyed.
+    rw (c .before .before .before .before .kind .given .1, c .before .enum-told3 .given .1) (c .all-between4 .ensures sizes surveyed)
 
 returns-5 : tie.Need-returns-5
-returns-5 c =
-    rw (c .before .before .before .before .kind .given .1, c .before .enum-told4 .given .1) (c .all-between5 .ensures)
+returns-5 c = λ sizes surveyed.
+    rw (c .before .before .before .before .kind .given .1, c .before .enum-told4 .given .1) (c .all-between5 .ensures sizes surveyed)
 
-pub sizes-fit-spec : {M : Type 1} → statement M
-sizes-fit-spec =
+pub suits-spec : {M : Type 1} → statement M
+suits-spec =
     tie.close
     (tie.spec
     enum-told
