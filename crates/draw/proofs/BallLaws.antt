@@ -1,8 +1,8 @@
 -- Laws of the command Ball: the balls in as a list, what the command does before and at the twentieth, and the room that a settled game leaves
 -- in every figure, since the house after it is reached too.
-use Prim.Native.Nat.{ℕ, zero, suc, _+_, _*_, _≤_, _<_, _^_}
+use Prim.Native.Nat.{ℕ, zero, suc, _+_, _≤_, _<_, _^_}
 use mathlib.Core.Path.{_≡_, refl, sym, ap, ap₂, _∙_, subst}
-use mathlib.Core.Bool.{true, false}
+use mathlib.Core.Bool.{true, false, cond}
 use mathlib.Core.Logic.{⊎-elim}
 use mathlib.Core.List.{List, [], _∷_, _++_, map, zipWith, map-map}
 use native.Mathlib.Nat.{not-suc-le-zero, le-of-suc-le-suc, eq-or-lt-of-le, add-assoc}
@@ -12,7 +12,6 @@ use lib.ListN.{length, getD, set, take, length-map, length-append}
 use lib.Seq.{getD-set-same, getD-set-other, take-all}
 use borrow.Author.Tests.{eq-eqb, ne-eqb}
 use Rattle.rules.specs.Lists.{sum, below, any, member, keep}
-use Rattle.rules.specs.Price.{chargeLimit}
 use Rattle.rules.specs.Settle.{settle}
 use Rattle.rules.specs.declared.terms.Draw.{Draw}
 use Rattle.rules.proofs.SettleLaws.{member-left, member-right, jackpot-shares-count, awards-count, awards-sum}
@@ -23,22 +22,22 @@ use Rattle.house.specs.Balance.{Reached}
 use Rattle.house.specs.Till.{tillOf}
 use Rattle.house.specs.View.{ticketIn, ticketsOf, view}
 use Rattle.draw.specs.Settling.{spread, entriesOf, prizesIn, jackpotPart, fullIn, Prized, SharedOut}
+use Rattle.draw.specs.Sharing.{paidAt, paidIn}
 use Rattle.draw.specs.Closing.{houseAfter}
 use Rattle.house.specs.declared.state.House.{House}
 use Rattle.draw.specs.declared.shares.Part.{Part}
-use Rattle.house.proofs.Ledger.{All, Kept}
+use Rattle.house.proofs.Ledger.{All}
 use Rattle.house.proofs.Refusals.{or-false}
-use Rattle.house.proofs.ListLaws.{map-append, cond-either}
+use Rattle.house.proofs.ListLaws.{map-append}
 use Rattle.house.proofs.MoneyLaws.{sum-picked, sum-unmoved}
 use Rattle.house.proofs.RowLists.{length-table, getD-table}
 use Rattle.house.proofs.RisingNumbers.{all-at}
 use Rattle.house.proofs.SheetFigures.{live-owed, finished-due, awarded-owed}
-use Rattle.house.proofs.Bounded.{one-game-within, game-paid-within}
 use Rattle.house.proofs.Reliance.{twentieth-settles}
 use Rattle.house.proofs.Theorem.{reached-step}
 use Rattle.house.proofs.ReachedHouses.{Sure, reached-sure}
 use Rattle.house.proofs.ViewLaws.{live-count, view-live}
-use Rattle.draw.proofs.ClosingLaws.{table-more, tables-alike, table-of, stakesIn, spread-total, spread-within}
+use Rattle.draw.proofs.ClosingLaws.{table-more, tables-alike, table-of, spread-total, spread-within}
 
 -- ---- the balls in
 
@@ -113,19 +112,12 @@ module _ (h : House) (words marks : List ℕ) where
       (all-at P (map (ticketIn words marks) (below (h .live))) all i blankTicket
       (omega (arith, length-table (ticketIn words marks) (h .live))))
 
-  -- the paid stakes of the game, place by place
-  pub stakes-by-place : sum (map (λ k. stakesIn (h .game) (ticketIn words marks k)) (below (h .live))) ≡ stakesDrawn (view h words marks)
-  unfolding view
-  stakes-by-place =
-      ap sum (sym (map-map (stakesIn (h .game)) (ticketIn words marks) (below (h .live))))
+  -- the paid stakes of the rows are those of the game
+  pub paid-view : paidIn words (h .game) (h .live) ≡ stakesDrawn (view h words marks)
+  unfolding view paidIn paidAt runsIn paidStakes
+  paid-view =
+      ap sum (sym (map-map (λ t. cond (runsIn (h .game) t) (paidStakes (h .game) (h .game + 1) t) 0) (ticketIn words marks) (below (h .live))))
       ∙ sym (sum-picked (paidStakes (h .game) (h .game + 1)) (runsIn (h .game)) (map (ticketIn words marks) (below (h .live))))
-
-module _ (game : ℕ) (t : Ticket) (kept : Kept game t) where
-  pub stakes-within : t .operands .stake * t .ways ≤ chargeLimit
-  stakes-within = subst (λ n. t .operands .stake * n ≤ chargeLimit) (sym (kept .counted)) (one-game-within (t .operands) (kept .checked))
-
-  pub stakes-in-within : stakesIn game t ≤ chargeLimit
-  stakes-in-within = cond-either (λ n. n ≤ chargeLimit) (runsIn game t) (game-paid-within game game t kept) (omega arith)
 
 -- ---- the parts of a settlement
 
@@ -172,9 +164,6 @@ module _ (m : Model) (b : ℕ) where
 
   six-count : length sixLast ≡ length (entriesOf (m .game) (m .live))
   six-count = jackpot-shares-count 6 _ lastDraw (m .six) (entriesOf (m .game) (m .live))
-
-  eight-count : length eightLast ≡ length (entriesOf (m .game) (m .live))
-  eight-count = jackpot-shares-count 8 _ lastDraw (m .eight) (entriesOf (m .game) (m .live))
 
   pub with-six-count : length (zipWith _+_ prizesLast sixLast) ≡ length (entriesOf (m .game) (m .live))
   with-six-count = length-zip prizesLast sixLast (prizes-count ∙ sym six-count) ∙ six-count

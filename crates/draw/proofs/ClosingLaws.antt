@@ -1,21 +1,20 @@
 -- Laws of a settled game's last step: tables by place, a table's sum, a ticket that closes or moves down, and what the places of a table that
 -- hold the spread awards make of the live tickets.
-use Prim.Native.Nat.{ℕ, zero, suc, _+_, _-_, _*_, _≤_, _<_, min, max}
+use Prim.Native.Nat.{ℕ, zero, suc, _+_, _-_, _≤_, _<_, max}
 use mathlib.Core.Path.{_≡_, refl, sym, ap, ap₂, _∙_, subst}
 use mathlib.Core.Bool.{Bool, true, false, cond, not, _&&_}
 use mathlib.Core.List.{List, [], _∷_, _++_, map, zipWith, append-nil, map-map}
-use native.Mathlib.Nat.{add-zero, mul-one}
+use native.Mathlib.Nat.{add-zero}
 use native.Mathlib.Numerals.{add-one}
 use native.Mathlib.Omega.{arith}
 use lib.Dec.{eqb}
 use lib.ListN.{length, getD, set, take, drop, length-take, take-append-drop}
 use lib.Seq.{ext-getD, getD-set-same, getD-take, getD-drop, take-take, take-suc, drop-set-lt, drop-drop, length-take-le}
-use borrow.Author.Tests.{lt-leb, le-leb, lt-ltb, le-ltb, eq-eqb, ne-eqb}
+use borrow.Author.Tests.{eq-eqb, ne-eqb}
 use Rattle.rules.specs.Lists.{sum, below, keep}
-use Rattle.rules.specs.Price.{charge}
-use Rattle.house.specs.Tickets.{Ticket, runsIn, gamesLeft, isFinished, isLive, paidStakes, withDue, withFinishedDay}
+use Rattle.house.specs.Tickets.{Ticket, runsIn, gamesLeft, isFinished, isLive, withDue, withFinishedDay}
 use Rattle.house.specs.Commands.{blankTicket, stillLive, finishedOn, awarded}
-use Rattle.house.specs.View.{marksAt, ticketIn, ticketsOf}
+use Rattle.house.specs.View.{ticketIn, ticketsOf}
 use Rattle.draw.specs.Settling.{spread}
 use Rattle.draw.specs.Closing.{paidTicket}
 use Rattle.house.proofs.ListLaws.{keep-append, map-append}
@@ -38,11 +37,6 @@ module _ {A : Type 0} where
       map-append f (below n) (n ∷ [])
       ∙ ap₂ (λ xs x. xs ++ (x ∷ [])) (tables-alike f g n (λ i b. same i (omega arith))) (same n (omega arith))
       ∙ sym (map-append g (below n) (n ∷ []))
-
-pub sum-table-more : (f : ℕ → ℕ) (n : ℕ) → sum (map f (below (n + 1))) ≡ sum (map f (below n)) + f n
-unfolding sum
-sum-table-more f n =
-    ap sum (table-more f n) ∙ sum-append (map f (below n)) (f n ∷ []) ∙ ap (λ k. sum (map f (below n)) + k) (add-zero (f n))
 
 pub table-of : (l : List ℕ) (n : ℕ) → n ≤ length l → map (λ i. getD l i 0) (below n) ≡ take n l
 table-of l n h =
@@ -92,32 +86,6 @@ module _ (game : ℕ) (table figures : List ℕ) (ts : List Ticket) (held : take
     spread-within i b =
         omega (arith, getD-take (length ts) table i 0 b, place-within (take (length ts) table) i, spread-total)
 
--- ---- a ticket's paid stakes of a game
-
-abbrev pub stakesIn : ℕ → Ticket → ℕ
-stakesIn game t = cond (runsIn game t) (paidStakes game (game + 1) t) 0
-
-module _ (game : ℕ) (t : Ticket) where
-  pub before-first : game < t .first → stakesIn game t ≡ 0
-  unfolding runsIn
-  before-first h = rw (lt-leb (t .first) game h)
-
-  pub after-last : t .first ≤ game → t .stop ≤ game → stakesIn game t ≡ 0
-  unfolding runsIn
-  after-last h k = rw (le-leb (t .first) game h, le-ltb game (t .stop) k)
-
-  pub played-free : t .first ≤ game → game < t .stop → t .free ≤ game → stakesIn game t ≡ 0
-  unfolding runsIn paidStakes charge
-  played-free h k f =
-      let none : min (game + 1) (t .free) - min game (t .free) ≡ 0 = omega arith in
-      rw (le-leb (t .first) game h, lt-ltb game (t .stop) k, none) (omega arith)
-
-  pub played-paid : t .first ≤ game → game < t .stop → game < t .free → stakesIn game t ≡ t .operands .stake * t .ways
-  unfolding runsIn paidStakes charge
-  played-paid h k f =
-      let one : min (game + 1) (t .free) - min game (t .free) ≡ 1 = omega arith in
-      rw (le-leb (t .first) game h, lt-ltb game (t .stop) k, one) (mul-one (t .operands .stake * t .ways))
-
 -- ---- a ticket after the game
 
 and-off : (b : Bool) → (b && false) ≡ false
@@ -143,33 +111,51 @@ module _ (day game cents : ℕ) (t : Ticket) where
   finishes-now h e = rw (e, eq-eqb (t .finishedDay) 0 h)
 
 module _ (game : ℕ) (t : Ticket) where
-  pub due-stays : (t .due ≡ 0 → ⊥) → isLive game t ≡ true
+  due-stays : (t .due ≡ 0 → ⊥) → isLive game t ≡ true
   due-stays h = rw (ne-eqb (t .due) 0 h, and-off (isFinished game t))
 
-  pub none-due : t .due ≡ 0 → (done : Bool) → done ≡ eqb (t .stop - max (t .first) game) 0 → isLive game t ≡ not done
+  none-due : t .due ≡ 0 → (done : Bool) → done ≡ eqb (t .stop - max (t .first) game) 0 → isLive game t ≡ not done
   unfolding gamesLeft
   none-due h done e = rw (eq-eqb (t .due) 0 h, and-on (isFinished game t), e)
 
--- a ticket whose due and finishing day stay is the same
-pub paid-same : (day game cents : ℕ) (t : Ticket)
-    → paidTicket day game cents t .due ≡ t .due
-    → paidTicket day game cents t .finishedDay ≡ t .finishedDay
-    → paidTicket day game cents t ≡ t
-paid-same day game cents t = go (isFinished game (withDue t (t .due + cents)) && eqb (t .finishedDay) 0)
-  where
-    go : (done : Bool)
-        → cond done (withFinishedDay (withDue t (t .due + cents)) day) (withDue t (t .due + cents)) .due ≡ t .due
-        → cond done (withFinishedDay (withDue t (t .due + cents)) day) (withDue t (t .due + cents)) .finishedDay ≡ t .finishedDay
-        → cond done (withFinishedDay (withDue t (t .due + cents)) day) (withDue t (t .due + cents)) ≡ t
-    go true due finished = λ i. withFinishedDay (withDue t (due i)) (finished i)
-    go false due finished = λ i. withDue t (due i)
+module _ (day game cents : ℕ) (t : Ticket) where
+  -- a finishing day closes no ticket
+  live-paid : isLive game (paidTicket day game cents t) ≡ isLive game (withDue t (t .due + cents))
+  unfolding gamesLeft
+  live-paid = go (isFinished game (withDue t (t .due + cents)) && eqb (t .finishedDay) 0)
+    where
+      go : (done : Bool)
+          → isLive game (cond done (withFinishedDay (withDue t (t .due + cents)) day) (withDue t (t .due + cents)))
+          ≡ isLive game (withDue t (t .due + cents))
+      go true = refl
+      go false = refl
+
+  pub paid-stays : (cents ≡ 0 → ⊥) → isLive game (paidTicket day game cents t) ≡ true
+  paid-stays some = live-paid ∙ due-stays game (withDue t (t .due + cents)) (λ none. some (omega arith))
+
+  pub owed-stays : (t .due ≡ 0 → ⊥) → isLive game (paidTicket day game cents t) ≡ true
+  owed-stays some = live-paid ∙ due-stays game (withDue t (t .due + cents)) (λ none. some (omega arith))
+
+  pub unpaid-stays : cents ≡ 0 → t .due ≡ 0 → (done : Bool) → done ≡ eqb (t .stop - max (t .first) game) 0
+      → isLive game (paidTicket day game cents t) ≡ not done
+  unpaid-stays unpaid none done e = live-paid ∙ none-due game (withDue t (t .due + cents)) (omega arith) done e
+
+  module _ (unpaid : cents ≡ 0) where
+    due-same : withDue t (t .due + cents) ≡ t
+    due-same = let same : t .due + cents ≡ t .due = omega arith in λ i. withDue t (same i)
+
+    pub same-finished : (t .finishedDay ≡ 0 → ⊥) → paidTicket day game cents t ≡ t
+    same-finished h = sym (finished-earlier day game cents t h) ∙ due-same
+
+    pub same-running : eqb (t .stop - max (t .first) game) 0 ≡ false → paidTicket day game cents t ≡ t
+    same-running e = sym (games-to-come day game cents t e) ∙ due-same
 
 module _ (g : ℕ) (t : Ticket) where
-  pub one-live : isLive g t ≡ true → stillLive g (t ∷ []) ≡ t ∷ []
+  one-live : isLive g t ≡ true → stillLive g (t ∷ []) ≡ t ∷ []
   unfolding stillLive keep
   one-live e = rw e
 
-  pub one-closed : isLive g t ≡ false → stillLive g (t ∷ []) ≡ []
+  one-closed : isLive g t ≡ false → stillLive g (t ∷ []) ≡ []
   unfolding stillLive keep
   one-closed e = rw e
 
@@ -184,17 +170,16 @@ module _ (ts : List Ticket) (left i : ℕ) (h : left ≤ i) (b : i < length ts) 
   pub rest-stays : drop (i + 1) (set ts left t) ≡ drop (i + 1) ts
   rest-stays = drop-set-lt (i + 1) ts left t (omega arith)
 
--- a ticket that moved has its marks with it
-pub moved-marks : (words marks words′ marks′ : List ℕ) (source to : ℕ) → source < 200 → to < 200
+-- a ticket that moved is the same at its new place
+pub moved-ticket : (words marks words′ marks′ : List ℕ) (source to : ℕ) → source < 200 → to < 200
     → ticketsOf words′ marks′ ≡ set (ticketsOf words marks) to (getD (ticketsOf words marks) source blankTicket)
-    → marksAt marks′ to ≡ marksAt marks source
-moved-marks words marks words′ marks′ source to h h′ moved =
+    → ticketIn words′ marks′ to ≡ ticketIn words marks source
+moved-ticket words marks words′ marks′ source to h h′ moved =
     let tickets : List Ticket = ticketsOf words marks in
-    ap (λ t. t .operands .marks)
-    (sym (tickets-at words′ marks′ to h′)
+    sym (tickets-at words′ marks′ to h′)
     ∙ ap (λ ts. getD ts to blankTicket) moved
     ∙ getD-set-same tickets to (getD tickets source blankTicket) blankTicket (omega (arith, tickets-length words marks))
-    ∙ tickets-at words marks source h)
+    ∙ tickets-at words marks source h
 
 -- ---- all of them
 

@@ -10,7 +10,7 @@ use mathlib.Core.List.{List, [], _∷_, _++_, map, map-map, zipWith}
 use lib.Dec.{eqb, ltb, leb}
 use lib.ListN.{length, take, set, getD, length-map}
 use lib.Seq.{getD-take}
-use borrow.Author.Tests.{ltb-true, ltb-false, eq-eqb, ne-eqb, le-leb, lt-leb, lt-ltb, le-ltb}
+use borrow.Author.Tests.{ltb-true, ltb-false, le-leb, lt-leb, lt-ltb, le-ltb}
 use Rattle.rules.specs.Lists.{sum, keep, below}
 use Rattle.rules.specs.Price.{chargeLimit, charge}
 use Rattle.rules.specs.Checks.{wayCount}
@@ -29,7 +29,8 @@ use Rattle.house.specs.Commands.{blankTicket}
 use Rattle.draw.specs.Settling.{entriesOf, spread, fullIn, guaranteeOf, SharedOut}
 use Rattle.house.specs.declared.state.House.{House}
 use Rattle.draw.specs.declared.shares.Part.{Part}
-use Rattle.draw.specs.Sharing.{stakesAt, stakesIn, winnerAt, winnersIn, Staked, Entered, Shareable}
+use Rattle.draw.specs.declared.figures.Stakes.{Stakes}
+use Rattle.draw.specs.Sharing.{paidAt, paidIn, stakesAt, stakesIn, winnerAt, winnersIn, stakesOf, Entered, Shareable}
 use Rattle.house.proofs.Ledger.{Kept}
 use Rattle.house.proofs.ListLaws.{cond-either, map-append}
 use Rattle.house.proofs.Bounded.{one-game-within, stake-within, ways-within}
@@ -42,19 +43,19 @@ use Rattle.house.proofs.RowLists.{length-table, getD-table}
 -- ---- one row's paid stakes
 
 module _ (game : ℕ) (t : Ticket) where
-  pub paid-for-game : game < t .free → paidStakes game (game + 1) t ≡ t .operands .stake * t .ways
+  paid-for-game : game < t .free → paidStakes game (game + 1) t ≡ t .operands .stake * t .ways
   unfolding paidStakes charge
   paid-for-game paid =
       let one : min (game + 1) (t .free) - min game (t .free) ≡ 1 = omega arith in
       ap (λ n. t .operands .stake * t .ways * n) one ∙ mul-one (t .operands .stake * t .ways)
 
-  pub free-game : t .free ≤ game → paidStakes game (game + 1) t ≡ 0
+  free-game : t .free ≤ game → paidStakes game (game + 1) t ≡ 0
   unfolding paidStakes charge
   free-game free =
       let none : min (game + 1) (t .free) - min game (t .free) ≡ 0 = omega arith in
       ap (λ n. t .operands .stake * t .ways * n) none ∙ mul-zero (t .operands .stake * t .ways)
 
-  pub game-paid-most : t .operands .stake * t .ways ≤ chargeLimit → paidStakes game (game + 1) t ≤ chargeLimit
+  game-paid-most : t .operands .stake * t .ways ≤ chargeLimit → paidStakes game (game + 1) t ≤ chargeLimit
   unfolding paidStakes charge
   game-paid-most within =
       let stakes = t .operands .stake * t .ways in
@@ -65,62 +66,78 @@ none-by : (b : Bool) → cond {A = ℕ} b 0 0 ≡ 0
 none-by true = refl
 none-by false = refl
 
-module _ (words : List ℕ) (game j i : ℕ) where
+-- a choice of a figure or none is within what the figure is within
+within-by : (b : Bool) {n most : ℕ} → n ≤ most → cond b n 0 ≤ most
+within-by true h = h
+within-by false h = omega arith
+
+module _ (words : List ℕ) (game i : ℕ) where
   abbrev t : Ticket
   t = ticketIn words [] i
 
-  nothing-by : (b : Bool) → cond (b && false) (paidStakes game (game + 1) t) 0 ≡ 0
-  nothing-by true = refl
-  nothing-by false = refl
+  pub paid-ahead : game < t .first → paidAt words game i ≡ 0
+  unfolding paidAt runsIn
+  paid-ahead early = rw (lt-leb (t .first) game early)
 
-  pub stakes-of-other : (t .jackpot ≡ j → ⊥) → stakesAt words game j i ≡ 0
-  unfolding stakesAt
-  stakes-of-other other = rw (ne-eqb (t .jackpot) j other)
-
-  pub stakes-ahead : game < t .first → stakesAt words game j i ≡ 0
-  unfolding stakesAt runsIn
-  stakes-ahead early = rw (lt-leb (t .first) game early) (nothing-by (eqb (t .jackpot) j))
-
-  pub stakes-past : t .stop ≤ game → stakesAt words game j i ≡ 0
-  unfolding stakesAt runsIn
-  stakes-past late = rw (le-ltb game (t .stop) late) (go (leb (t .first) game))
+  pub paid-past : t .stop ≤ game → paidAt words game i ≡ 0
+  unfolding paidAt runsIn
+  paid-past late = rw (le-ltb game (t .stop) late) (go (leb (t .first) game))
     where
-      go : (b : Bool) → cond (eqb (t .jackpot) j && (b && false)) (paidStakes game (game + 1) t) 0 ≡ 0
-      go true = nothing-by (eqb (t .jackpot) j)
-      go false = nothing-by (eqb (t .jackpot) j)
+      go : (b : Bool) → cond (b && false) (paidStakes game (game + 1) t) 0 ≡ 0
+      go true = refl
+      go false = refl
 
-  pub stakes-free : t .free ≤ game → stakesAt words game j i ≡ 0
-  unfolding stakesAt
-  stakes-free free = rw (free-game game t free) (none-by (eqb (t .jackpot) j && runsIn game t))
+  pub paid-free : t .free ≤ game → paidAt words game i ≡ 0
+  unfolding paidAt
+  paid-free free = rw (free-game game t free) (none-by (runsIn game t))
 
-  pub stakes-paid : t .jackpot ≡ j → t .first ≤ game → game < t .stop → game < t .free
-      → stakesAt words game j i ≡ t .operands .stake * t .ways
-  unfolding stakesAt runsIn
-  stakes-paid same begun before paid =
-      rw (eq-eqb (t .jackpot) j same, le-leb (t .first) game begun, lt-ltb game (t .stop) before) (paid-for-game game t paid)
+  pub paid-whole : t .first ≤ game → game < t .stop → game < t .free → paidAt words game i ≡ t .operands .stake * t .ways
+  unfolding paidAt runsIn
+  paid-whole begun before paid =
+      rw (le-leb (t .first) game begun, lt-ltb game (t .stop) before) (paid-for-game game t paid)
+
+  -- all that the ticket stakes on a game, or nothing
+  pub paid-at-within : t .operands .stake * t .ways ≤ chargeLimit → paidAt words game i ≤ chargeLimit
+  unfolding paidAt
+  paid-at-within within = within-by (runsIn game t) (game-paid-most game t within)
 
 -- ---- one row more
 
-module _ (words : List ℕ) (game j : ℕ) where
-  pub stakes-none : stakesIn words game j 0 ≡ 0
-  unfolding stakesIn below sum
-  stakes-none = refl
+module _ (words : List ℕ) (game : ℕ) where
+  pub paid-none : paidIn words game 0 ≡ 0
+  unfolding paidIn below sum
+  paid-none = refl
 
-  pub stakes-more : (i : ℕ) → stakesIn words game j (i + 1) ≡ stakesIn words game j i + stakesAt words game j i
-  unfolding stakesIn below
-  stakes-more i =
-      ap (λ n. sum (map (stakesAt words game j) (below n))) (add-one i) ∙ sum-snoc (stakesAt words game j) (below i) i
+  pub paid-more : (i : ℕ) → paidIn words game (i + 1) ≡ paidIn words game i + paidAt words game i
+  unfolding paidIn below
+  paid-more i = ap (λ n. sum (map (paidAt words game) (below n))) (add-one i) ∙ sum-snoc (paidAt words game) (below i) i
 
-  -- a row's stakes are all that it stakes on a game, or none
-  pub stakes-at-within : (i : ℕ) → rowOf words (i * 16) .stake * rowOf words (i * 16) .ways ≤ chargeLimit
-      → stakesAt words game j i ≤ chargeLimit
-  unfolding stakesAt
-  stakes-at-within i within =
-      go (eqb (ticketIn words [] i .jackpot) j && runsIn game (ticketIn words [] i)) (game-paid-most game (ticketIn words [] i) within)
-    where
-      go : (b : Bool) {n : ℕ} → n ≤ chargeLimit → cond b n 0 ≤ chargeLimit
-      go true h = h
-      go false h = omega arith
+  module _ (j : ℕ) where
+    pub stakes-none : stakesIn words game j 0 ≡ 0
+    unfolding stakesIn below sum
+    stakes-none = refl
+
+    pub stakes-more : (i : ℕ) → stakesIn words game j (i + 1) ≡ stakesIn words game j i + cond (eqb (rowOf words (i * 16) .jackpot) j) (paidAt words game i) 0
+    unfolding stakesIn stakesAt below
+    stakes-more i =
+        ap (λ n. sum (map (stakesAt words game j) (below n))) (add-one i) ∙ sum-snoc (stakesAt words game j) (below i) i
+
+  module _ (full : List ℕ) (live : ℕ) (entered : Entered words full live) where
+    pub paid-within : (i : ℕ) → i ≤ live → paidIn words game i ≤ i * chargeLimit
+    paid-within zero h = omega (arith, paid-none)
+    paid-within (suc i) h =
+        rw (← add-one i) (omega (arith, paid-more i, paid-within i (omega arith), paid-at-within words game i (entered .within i (omega arith))))
+
+    pub stakes-within : (j i : ℕ) → i ≤ live → stakesIn words game j i ≤ i * chargeLimit
+    stakes-within j zero h = omega (arith, stakes-none j)
+    stakes-within j (suc i) h =
+        rw (← add-one i)
+        (omega (
+          arith,
+          stakes-more j i,
+          stakes-within j i (omega arith),
+          within-by (eqb (rowOf words (i * 16) .jackpot) j) (paid-at-within words game i (entered .within i (omega arith))),
+        ))
 
 module _ (words full : List ℕ) (j : ℕ) where
   pub winners-none : winnersIn words full j 0 ≡ []
@@ -186,9 +203,14 @@ module _ (words full : List ℕ) (j : ℕ) where
 
   -- ---- bounds
 
-  module _ (live : ℕ) (entered : Entered words full j live) where
-    pub winning-at-within : (i : ℕ) → i < live → winnerAt words full j i .count * winnerAt words full j i .stake ≤ 255 * chargeLimit
-    winning-at-within i h = mul-le-mul (entered .ways i h) (entered .stakes i h)
+  module _ (live : ℕ) (entered : Entered words full live) where
+    winners-few : (i : ℕ) → i < live → winnerAt words full j i .count ≤ 255
+    unfolding winnerAt
+    winners-few i h = within-by (eqb (rowOf words (i * 16) .jackpot) j) (entered .ways i h)
+
+    winning-at-within : (i : ℕ) → i < live → winnerAt words full j i .count * winnerAt words full j i .stake ≤ 255 * chargeLimit
+    unfolding winnerAt
+    winning-at-within i h = mul-le-mul (winners-few i h) (entered .stakes i h)
 
     pub winning-within : (i : ℕ) → i ≤ live → winningStakes (winnersIn words full j i) ≤ i * (255 * chargeLimit)
     winning-within zero h = omega (arith, winning-none)
@@ -198,7 +220,7 @@ module _ (words full : List ℕ) (j : ℕ) where
   module _ (live primary stakes : ℕ) (won : Shareable words full j live primary stakes) where
     -- each ticket's winning ways among all of them
     pub sharing-at : (i : ℕ) → i < live → Sharing primary stakes (winnerAt words full j i .count) (winnerAt words full j i .stake)
-    unfolding winningStakes
+    unfolding winningStakes winnerAt
     sharing-at i h =
         record {
           pool = omega (arith, won .pool);
@@ -206,7 +228,7 @@ module _ (words full : List ℕ) (j : ℕ) where
           total = omega (arith, won .total, won .entered .few, winning-within live (won .entered) live (omega arith));
           won = won .won;
           part = omega (arith, won .total, figure-within winningStake live i h);
-          few = omega (arith, won .entered .ways i h);
+          few = omega (arith, winners-few live (won .entered) i h);
         }
 
     -- the rounded shares of the first rows are within the primary
@@ -222,9 +244,41 @@ module _ (words full : List ℕ) (j : ℕ) where
     share-most i odd h =
         omega (
           arith,
-          won .entered .ways i h,
+          winners-few live (won .entered) i h,
           ticket-within primary stakes (won .won) (winnerAt words full j i .count) (winnerAt words full j i .stake) (sharing-at i h .part),
         )
+
+-- ---- a jackpot's stakes, one row more
+
+pub no-stakes : (words full : List ℕ) (game j : ℕ) → stakesOf words full game j 0 ≡ record { jackpot = j; paid = 0; winning = 0 }
+no-stakes words full game j = λ k. record { jackpot = j; paid = stakes-none words game j k; winning = winning-none words full j k }
+
+module _ (words full : List ℕ) (game j i own : ℕ) (s : Stakes) (held : s ≡ stakesOf words full game j i) (paid : own ≡ paidAt words game i) where
+  pub stakes-room : (live : ℕ) → Entered words full live → i < live
+      → (s .paid + own < 2 ^ 64) × (s .winning + getD full i 0 * rowOf words (i * 16) .stake < 2 ^ 64)
+  stakes-room live entered h =
+      let most : getD full i 0 * rowOf words (i * 16) .stake ≤ 255 * chargeLimit = mul-le-mul (entered .ways i h) (entered .stakes i h) in (
+        omega (
+          arith,
+          ap (λ r. r .paid) held,
+          entered .few,
+          stakes-within words game full live entered j i (omega arith),
+          paid-at-within words game i (entered .within i h),
+        ),
+        omega (arith, ap (λ r. r .winning) held, entered .few, winning-within words full j live entered i (omega arith)),
+      )
+
+  pub stakes-next : (r : Stakes) → r .jackpot ≡ s .jackpot
+      → r .paid ≡ s .paid + cond (eqb (rowOf words (i * 16) .jackpot) (s .jackpot)) own 0
+      → r .winning ≡ s .winning + winningStake (winnerAt words full (s .jackpot) i)
+      → r ≡ stakesOf words full game j (i + 1)
+  stakes-next r same more won =
+      let number : s .jackpot ≡ j = ap (λ r. r .jackpot) held in
+      let paying : r .paid ≡ stakesIn words game j (i + 1) =
+      more ∙ (λ k. held k .paid + cond (eqb (rowOf words (i * 16) .jackpot) (number k)) (paid k) 0) ∙ sym (stakes-more words game j i) in
+      let winning : r .winning ≡ winningStakes (winnersIn words full j (i + 1)) =
+      won ∙ (λ k. held k .winning + winningStake (winnerAt words full (number k) i)) ∙ sym (winning-more words full j i) in
+      λ k. record { jackpot = (same ∙ number) k; paid = paying k; winning = winning k }
 
 -- ---- shares joined to what is paid
 
@@ -492,38 +546,27 @@ module _
             )
         go false = omega arith
 
-    pub staked : Staked words (h .live)
-    staked =
+    pub entered : Entered words full (h .live)
+    entered =
         record {
           few = live-few;
           within = λ i b.
               let kept = kept-at i b in
               let counted : ticket i .operands .stake * ticket i .ways ≡ ticket i .operands .stake * wayCount (ticket i .operands) = ap (λ n. ticket i .operands .stake * n) (kept .counted) in
               omega (arith, counted, one-game-within (ticket i .operands) (kept .checked));
+          stakes = λ i b. stake-within (ticket i .operands) (kept-at i b .checked);
+          ways = full-few;
         }
 
     module _ (j : ℕ) where
-      pub entered : Entered words full j (h .live)
-      unfolding winnerAt
-      entered =
-          record {
-            few = live-few;
-            ways = λ i b. go (eqb (ticket i .jackpot) j) (full-few i b);
-            stakes = λ i b. stake-within (ticket i .operands) (kept-at i b .checked);
-          }
-        where
-          go : (b : Bool) {n : ℕ} → n ≤ 255 → cond b n 0 ≤ 255
-          go true few = few
-          go false few = omega arith
-
       -- the paid stakes of the rows are those of the entries
       stakes-at : (i : ℕ) → i < h .live
           → stakesAt words (h .game) j i
           ≡ cond (runsIn (h .game) (ticket i)) (cond (playsFor j (entryOf (h .game) (ticket i))) (paidStakes (h .game) (h .game + 1) (ticket i)) 0) 0
-      unfolding stakesAt runsIn paidStakes
+      unfolding stakesAt paidAt runsIn paidStakes
       stakes-at i b = rw (← kept-at i b .playing) (go (eqb (ticket i .jackpot) j) (runsIn (h .game) (ticket i)) (paidStakes (h .game) (h .game + 1) (ticket i)))
         where
-          go : (plays runs : Bool) (n : ℕ) → cond (plays && runs) n 0 ≡ cond runs (cond plays n 0) 0
+          go : (plays runs : Bool) (n : ℕ) → cond plays (cond runs n 0) 0 ≡ cond runs (cond plays n 0) 0
           go true true n = refl
           go true false n = refl
           go false true n = refl

@@ -26,10 +26,6 @@ module _ (game : ℕ) where
   spread-rests [] t ts e = refl
   spread-rests (x ∷ figures) t ts e = rw e
 
-  pub spread-none : (t : Ticket) (ts : List Ticket) → spread game [] (t ∷ ts) ≡ 0 ∷ spread game [] ts
-  unfolding spread
-  spread-none t ts = refl
-
   pub length-spread : (figures : List ℕ) (ts : List Ticket) → length (spread game figures ts) ≡ length ts
   unfolding spread
   length-spread figures [] = refl

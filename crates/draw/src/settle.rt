@@ -1,5 +1,6 @@
 // The twentieth ball: the game's prizes and shares join what its tickets are due, and tickets with nothing left close.
 use crate::ball::balls_with;
+use crate::figures::find_figures;
 use crate::prizes::find_prizes;
 use crate::shares::Part;
 use crate::shares::settle_jackpot;
@@ -14,66 +15,17 @@ use house::state::Counters;
 use house::state::House;
 use rules::terms::Draw;
 ghost use mathlib.Core.Path.{_≡_};
-ghost use mathlib.Core.Bool.{cond, not};
+ghost use mathlib.Core.Bool.{true, not};
 ghost use mathlib.Core.List.{List, [], _∷_, _++_, map};
 ghost use Prim.Native.Nat.{ℕ, _+_, _*_, _≤_, _<_, _^_};
-ghost use lib.ListN.{length, take, drop, getD};
-ghost use Rattle.rules.specs.Lists.{sum};
-ghost use Rattle.house.specs.Tickets.{runsIn, paidStakes, isLive};
-ghost use Rattle.house.specs.Commands.{ball, codeOf, stillLive, finishedOn, awarded, stakesDrawn};
+ghost use lib.ListN.{take, drop, getD};
+ghost use Rattle.house.specs.Tickets.{isLive};
+ghost use Rattle.house.specs.Commands.{ball, codeOf, stillLive, finishedOn, awarded};
 ghost use Rattle.house.specs.Balance.{Reached};
 ghost use Rattle.house.specs.View.{ticketFrom, ticketIn, ticketsOf, view};
-ghost use Rattle.house.specs.Parts.{Carried, ComesWith};
+ghost use Rattle.house.specs.Parts.{Carried};
 ghost use Rattle.draw.specs.Settling.{spread};
 ghost use Rattle.draw.specs.Closing.{paidTicket, houseAfter};
-
-// The first figures of a table together.
-fn sum_first(table: &[u64; 200], count: usize) -> u64
-    requires { ⌜ (count ≤ 200) × (count ≤ length (now table)) × (sum (take count (now table)) < 2 ^ 64) ⌝ }
-    ensures { λ r. ⌜ r ≡ sum (take count (now (table .entry))) ⌝ }
-{
-    let mut total: u64 = 0;
-    let mut i = 0;
-    while i < count {
-        total += table[i];
-        i += 1;
-    }
-    total
-}
-
-// What a ticket paid for a game: nothing where it does not run in it, or plays it free.
-fn paid_for_game(row: Row, game: u64) -> u64
-    requires { ⌜ row .stake * row .ways < 2 ^ 64 ⌝ }
-    ensures { λ r. ⌜ ((m : List ℕ) → r ≡ cond (runsIn game (ticketFrom row m)) (paidStakes game (game + 1) (ticketFrom row m)) 0) ⌝ }
-{
-    if game < row.first {
-        return 0;
-    }
-    if row.stop <= game {
-        return 0;
-    }
-    if row.free <= game {
-        return 0;
-    }
-    row.stake * row.ways
-}
-
-// The paid stakes of the game.
-fn sum_stakes(house: House, rows: &[u64; 3200]) -> u64
-    requires { ⌜ ComesWith house (now rows) ⌝ }
-    ensures { λ r. ⌜ ((marks : List ℕ) → r ≡ stakesDrawn (view house (now (rows .entry)) marks)) ⌝ }
-{
-    let game = house.game;
-    let live = house.live as usize;
-    let mut total: u64 = 0;
-    let mut i = 0;
-    while i < live {
-        let row = read_row(rows, i);
-        total += paid_for_game(row, game);
-        i += 1;
-    }
-    total
-}
 
 // A ticket with what it is paid, and its finishing day where no game is left.
 fn paid_row(row: Row, day: u64, game: u64, cents: u64) -> Row
@@ -92,14 +44,34 @@ fn paid_row(row: Row, day: u64, game: u64, cents: u64) -> Row
     next
 }
 
-// Whether a ticket is finished, and nothing is due to it.
-fn is_closed(row: Row, game: u64) -> bool
-    ensures { λ r. ⌜ ((m : List ℕ) → isLive game (ticketFrom row m) ≡ not r) ⌝ }
+// Whether the ticket at a place closes with what it is paid: no game is left, and nothing is due.
+fn is_closed(rows: &[u64; 3200], i: usize, game: u64, cents: u64) -> bool
+    requires { ⌜ i < 200 ⌝ }
+    ensures { λ r. ⌜ ((day : ℕ) (m : List ℕ) → isLive game (paidTicket day game cents (ticketIn (now (rows .entry)) m i)) ≡ not r) ⌝ }
 {
-    if row.due != 0 {
+    if cents != 0 {
         return false;
     }
-    is_finished(game, row.first, row.stop)
+    let at = i * 16;
+    if rows[at + 12] != 0 {
+        return false;
+    }
+    is_finished(game, rows[at + 9], rows[at + 10])
+}
+
+// Whether the ticket at a place is the same with what it is paid: nothing, and it has a game left or its finishing day already.
+fn is_same(rows: &[u64; 3200], i: usize, game: u64, cents: u64) -> bool
+    requires { ⌜ i < 200 ⌝ }
+    ensures { λ r. ⌜ (r ≡ true → (day : ℕ) (m : List ℕ) → paidTicket day game cents (ticketIn (now (rows .entry)) m i) ≡ ticketIn (now (rows .entry)) m i) ⌝ }
+{
+    if cents != 0 {
+        return false;
+    }
+    let at = i * 16;
+    if rows[at + 13] != 0 {
+        return true;
+    }
+    !is_finished(game, rows[at + 9], rows[at + 10])
 }
 
 // The ticket at a place, where the given game is current now: it closes, or stays and stands behind the `left` tickets before it that stay.
@@ -118,16 +90,15 @@ fn close_ticket(
     ensures stay { λ r. ⌜ take r (ticketsOf (now (rows .exit)) (now (marks .exit))) ≡ take left (ticketsOf (now (rows .entry)) (now (marks .entry))) ++ stillLive game (paidTicket day game cents (ticketIn (now (rows .entry)) (now (marks .entry)) i) ∷ []) ⌝ }
     ensures rest { λ r. ⌜ drop (i + 1) (ticketsOf (now (rows .exit)) (now (marks .exit))) ≡ drop (i + 1) (ticketsOf (now (rows .entry)) (now (marks .entry))) ⌝ }
 {
-    let row = read_row(rows, i);
-    let next = paid_row(row, day, game, cents);
-    if is_closed(next, game) {
+    if is_closed(rows, i, game, cents) {
         return left;
     }
     move_ticket(rows, marks, i, left);
-    if next.due == row.due && next.finished == row.finished {
+    if is_same(rows, left, game, cents) {
         return left + 1;
     }
-    change_ticket(rows, left, next);
+    let row = read_row(rows, left);
+    change_ticket(rows, left, paid_row(row, day, game, cents));
     left + 1
 }
 
@@ -205,11 +176,10 @@ pub fn settle_game(
     let mut paid = [0u64; 200];
     let mut full = [0u64; 200];
     find_prizes(house, rows, marks, Draw { balls }, &mut paid, &mut full);
-    let prizes = sum_first(&paid, live);
-    let stakes = sum_stakes(house, rows);
-    let six = settle_jackpot(house, rows, 6, house.six, &full, &mut paid);
-    let eight = settle_jackpot(house, rows, 8, house.eight, &full, &mut paid);
+    let figures = find_figures(rows, &paid, &full, live, house.game);
+    let six = settle_jackpot(house, rows, figures.six, house.six, &full, &mut paid);
+    let eight = settle_jackpot(house, rows, figures.eight, house.eight, &full, &mut paid);
     let left = close_tickets(house, rows, marks, &paid);
-    let next = next_game(house, left, prizes, stakes, six, eight);
-    accepted(next, 20, prizes + (six.shares + eight.shares))
+    let next = next_game(house, left, figures.prizes, figures.stakes, six, eight);
+    accepted(next, 20, figures.prizes + (six.shares + eight.shares))
 }

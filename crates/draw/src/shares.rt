@@ -1,21 +1,22 @@
-// One jackpot's part of a drawn game: contributions, shares, seed and what is paid back. Each walk over the live rows reads words alone.
+// One jackpot's part of a drawn game: contributions, shares, seed and what is paid back. Rows are passed only where a way won, and each walk over
+// them reads words alone.
+use crate::figures::Stakes;
 use house::state::House;
 use rules::jackpot::Jackpot;
 use rules::jackpot::ticket_share;
 ghost use mathlib.Core.Path.{_≡_};
 ghost use mathlib.Core.List.{List, zipWith};
 ghost use mathlib.Core.Logic.{_⊎_};
-ghost use Prim.Native.Nat.{ℕ, _+_, _-_, _*_, _≤_, _<_, _^_, min};
+ghost use Prim.Native.Nat.{ℕ, _+_, _-_, _*_, _<_, _^_, min};
 ghost use lib.ListN.{take, getD};
 ghost use Rattle.rules.specs.declared.terms.Draw.{Draw};
 ghost use Rattle.rules.specs.Lists.{sum};
-ghost use Rattle.rules.specs.Price.{chargeLimit};
 ghost use Rattle.rules.specs.Bounds.{Sharing};
 ghost use Rattle.rules.specs.Jackpots.{winningStakes, shareOf, oddCents, sharesFrom, jackpotShares};
 ghost use Rattle.house.specs.Balance.{Reached};
-ghost use Rattle.house.specs.View.{rowOf, view};
+ghost use Rattle.house.specs.View.{view};
 ghost use Rattle.draw.specs.Settling.{spread, fullIn, guaranteeOf, Matched, SharedOut};
-ghost use Rattle.draw.specs.Sharing.{stakesAt, stakesIn, winnerAt, winnersIn, Staked, Entered, Shareable};
+ghost use Rattle.draw.specs.Sharing.{winnerAt, winnersIn, stakesOf, Entered, Shareable};
 
 // The jackpot after the game, the shares together, and the totals that the till takes in.
 pub struct Part {
@@ -24,41 +25,6 @@ pub struct Part {
     pub contributions: u64,
     pub seed: u64,
     pub repaid: u64,
-}
-
-// A ticket's paid stakes for the game. None, where it plays for another jackpot, does not run in the game or has it free.
-fn stakes_at(rows: &[u64; 3200], i: usize, game: u64, jackpot: u64) -> u64
-    requires { ⌜ (i < 200) × (rowOf (now rows) (i * 16) .stake * rowOf (now rows) (i * 16) .ways ≤ chargeLimit) ⌝ }
-    ensures { λ r. ⌜ r ≡ stakesAt (now (rows .entry)) game jackpot i ⌝ }
-{
-    let at = i * 16;
-    if rows[at + 7] != jackpot {
-        return 0;
-    }
-    if game < rows[at + 9] {
-        return 0;
-    }
-    if rows[at + 10] <= game {
-        return 0;
-    }
-    if rows[at + 11] <= game {
-        return 0;
-    }
-    rows[at + 3] * rows[at + 6]
-}
-
-// The paid stakes of all tickets that contribute to the jackpot.
-fn stakes_for(rows: &[u64; 3200], live: usize, game: u64, jackpot: u64) -> u64
-    requires { ⌜ Staked (now rows) live ⌝ }
-    ensures { λ r. ⌜ (r ≡ stakesIn (now (rows .entry)) game jackpot live) × (r ≤ 200 * chargeLimit) ⌝ }
-{
-    let mut stakes = 0;
-    let mut i = 0;
-    while i < live {
-        stakes += stakes_at(rows, i, game, jackpot);
-        i += 1;
-    }
-    stakes
 }
 
 // A ticket's winning ways: its full matches, where it plays for the jackpot.
@@ -71,22 +37,6 @@ fn winning_ways(rows: &[u64; 3200], i: usize, jackpot: u64, full: &[u64; 200]) -
         return full[i];
     }
     0
-}
-
-// The stakes of all winning ways.
-fn winning_stakes(rows: &[u64; 3200], live: usize, jackpot: u64, full: &[u64; 200]) -> u64
-    requires { ⌜ Entered (now rows) (now full) jackpot live ⌝ }
-    ensures { λ r. ⌜ r ≡ winningStakes (winnersIn (now (rows .entry)) (now (full .entry)) jackpot live) ⌝ }
-{
-    let mut stakes = 0;
-    let mut i = 0;
-    while i < live {
-        let at = i * 16;
-        let count = winning_ways(rows, i, jackpot, full);
-        stakes += count * rows[at + 3];
-        i += 1;
-    }
-    stakes
 }
 
 // What a ticket's winning ways get, with those of the odd cents that are left for them.
@@ -170,7 +120,7 @@ fn share_out(
     stakes: u64,
     paid: &mut [u64; 200],
 ) -> u64
-    requires entered { ⌜ Entered (now rows) (now full) jackpot live ⌝ }
+    requires entered { ⌜ Entered (now rows) (now full) live ⌝ }
     requires total { ⌜ stakes ≡ winningStakes (winnersIn (now rows) (now full) jackpot live) ⌝ }
     requires pool { ⌜ primary + 255 < 2 ^ 63 ⌝ }
     requires room { ⌜ ((i : ℕ) → i < live → getD (now paid) i 0 < 2 ^ 63) ⌝ }
@@ -194,36 +144,44 @@ fn guarantee_of(jackpot: u64) -> u64
     House::GUARANTEE_OF_EIGHT
 }
 
-// The game's part of the jackpot for 6 or 8 numbers. Its shares join what each ticket is paid.
+// The game's part of the jackpot for 6 or 8 numbers, from its stakes. Its shares join what each ticket is paid.
 pub fn settle_jackpot(
     house: House,
     rows: &[u64; 3200],
-    jackpot: u64,
+    stakes: Stakes,
     before: Jackpot,
     full: &[u64; 200],
     paid: &mut [u64; 200],
 ) -> Part
-    requires number { ⌜ (jackpot ≡ 6) ⊎ (jackpot ≡ 8) ⌝ }
+    requires number { ⌜ (stakes .jackpot ≡ 6) ⊎ (stakes .jackpot ≡ 8) ⌝ }
     requires house { ⌜ Matched house (now rows) (now full) ⌝ }
+    requires stakes { ⌜ stakes ≡ stakesOf (now rows) (now full) (house .game) (stakes .jackpot) (house .live) ⌝ }
     requires pools { ⌜ (before .primary < 2 ^ 62) × (before .secondary < 2 ^ 62) × (before .reimbursement < 2 ^ 62) × (before .debt < 2 ^ 62) ⌝ }
     requires room { ⌜ ((i : ℕ) → i < house .live → getD (now paid) i 0 < 2 ^ 63) ⌝ }
     ensures { λ r. ⌜ ((marks : List ℕ) (draw : Draw)
         → Reached (view house (now (rows .entry)) marks)
         → take (house .live) (now (full .entry)) ≡ spread (house .game) (fullIn (house .game) draw (view house (now (rows .entry)) marks .live)) (view house (now (rows .entry)) marks .live)
-        → SharedOut (view house (now (rows .entry)) marks) jackpot draw before (now (paid .entry)) (now (paid .exit)) r) ⌝ }
+        → SharedOut (view house (now (rows .entry)) marks) (stakes .jackpot) draw before (now (paid .entry)) (now (paid .exit)) r) ⌝ }
 {
     let live = house.live as usize;
-    let stakes = stakes_for(rows, live, house.game, jackpot);
-    let winning = winning_stakes(rows, live, jackpot, full);
-    let grown = before.contributed(stakes);
-    let won = 0 < winning;
-    let shares = share_out(rows, live, jackpot, full, grown.primary, winning, paid);
+    let jackpot = stakes.jackpot;
+    let grown = before.contributed(stakes.paid);
+    let won = 0 < stakes.winning;
+    let shares = share_out(
+        rows,
+        live,
+        jackpot,
+        full,
+        grown.primary,
+        stakes.winning,
+        paid,
+    );
     let guarantee = guarantee_of(jackpot);
     let next = grown.reseeded(won, guarantee);
     Part {
         after: next.repaid(),
         shares,
-        contributions: 25 * (stakes / 100),
+        contributions: 25 * (stakes.paid / 100),
         seed: grown.seed(won, guarantee),
         repaid: next.repayment(),
     }

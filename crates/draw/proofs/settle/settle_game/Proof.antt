@@ -1,8 +1,8 @@
--- `house::settle::settle_game` meets its contract: the tables hold first the prizes, then the shares with them, which are the game's awards; and
+-- `draw::settle::settle_game` meets its contract: the tables hold first the prizes, then the shares with them, which are the game's awards; and
 -- every figure fits, since the house after the game is reached too.
 use Prim.Native.Nat.{ℕ, _+_, _≤_, _<_, _^_}
 use native.Mathlib.Omega.{arith}
-use mathlib.Core.Path.{_≡_, refl, sym, ap, ap₂, _∙_, subst}
+use mathlib.Core.Path.{_≡_, sym, ap, ap₂, _∙_, subst}
 use mathlib.Core.Logic.{inl, inr}
 use mathlib.Core.List.{List, zipWith}
 use lib.ListN.{length, take}
@@ -14,10 +14,13 @@ use Rattle.house.specs.Model.{Model}
 use Rattle.house.specs.Commands.{ball, ballsWith, replies, settlement}
 use Rattle.house.specs.View.{view}
 use Rattle.draw.specs.Settling.{spread, fullIn, Prized, SharedOut}
+use Rattle.draw.specs.Sharing.{stakesOf}
+use Rattle.draw.specs.declared.figures.Figures.{Figures}
 use Rattle.house.proofs.ReachedHouses.{Sure, reached-sure}
 use Rattle.house.proofs.ViewLaws.{carried-done, balls-count, live-count}
 use Rattle.draw.proofs.ClosingLaws.{spread-fills}
-use Rattle.draw.proofs.BallLaws.{last-act, each-live, lastDraw, prizesLast, sixLast, prizes-count, with-six-count, parted, Fitting, fitting, prizes-total, prizes-fit, six-fit, awards-fit, whole-draw, matches-by, Found, found-by, settled-view}
+use Rattle.draw.proofs.SharingLaws.{entered}
+use Rattle.draw.proofs.BallLaws.{last-act, each-live, paid-view, lastDraw, prizesLast, sixLast, prizes-count, with-six-count, parted, Fitting, fitting, prizes-total, prizes-fit, six-fit, awards-fit, whole-draw, matches-by, Found, found-by, settled-view}
 use Rattle.draw.proofs.settle.settle_game.Statement.{statement}
 use Rattle.draw.proofs.settle.settle_game.Tie as tie
 
@@ -81,37 +84,55 @@ total c =
     ap (λ n. sum (take n (prizeTable c))) (sym (count s))
     ∙ prizes-total (model s) (s .args .number) (fit s) (prizeTable c) (prized c .prizes)
 
-sum-first-requires : tie.Need-sum-first-requires
-sum-first-requires c κs =
-    let s = startOf (c .before) in (
-      few s,
-      omega (arith, count s, spread-fills _ (prizeTable (c .before)) _ (model s .live) (prized (c .before) .prizes)),
-      omega (arith, total (c .before), fit s .lost),
+find-figures-requires : tie.Need-find-figures-requires
+find-figures-requires c κs =
+    let found = c .before .before .before in
+    let s = startOf found in (
+      entered (s .args .house) (s .args .rows .now) (matchTable found) (s .args .marks .now) (drawOf s) (s .pre .0) (matches found),
+      (
+        omega (arith, count s, spread-fills _ (prizeTable found) _ (model s .live) (prized found .prizes)),
+        omega (arith, total found, fit s .lost),
+      ),
     )
 
-sum-stakes-requires : tie.Need-sum-stakes-requires
-sum-stakes-requires c κs = record { marks = startOf (c .before .before .before) .args .marks .now; reached = startOf (c .before .before .before) .pre .0 }
-
 -- ---- the shares
+
+abbrev foundFor : tie.After-find-figures → tie.After-find-prizes
+foundFor c = c .before .before .before .before
+
+-- the stakes found are those of the jackpots for 6 and 8
+number-six : (c : tie.After-find-figures) → c .find-figures .result .six .jackpot ≡ 6
+number-six c = ap (λ (f : Figures). f .six .jackpot) (c .find-figures .ensures)
+
+number-eight : (c : tie.After-find-figures) → c .find-figures .result .eight .jackpot ≡ 8
+number-eight c = ap (λ (f : Figures). f .eight .jackpot) (c .find-figures .ensures)
 
 settle-jackpot-requires : tie.Need-settle-jackpot-requires
 unfolding view
 settle-jackpot-requires c κs =
-    let found = c .before .before .before .before .before .before .before in
+    let figured = c .before .before .before in
+    let found = foundFor figured in
     let s = startOf found in
     let pools = sure s .fit .six in (
-      inl refl,
+      inl (number-six figured),
       (
         record { marks = s .args .marks .now; draw = drawOf s; reached = s .pre .0; matches = matches found },
         (
-          (pools .primary, pools .secondary, pools .reimbursement, pools .debt),
-          λ i b. omega (arith, prizes-fit (model s) (s .args .number) (fit s) (prizeTable found) (prized found .prizes) i (omega (arith, count s))),
+          ap (λ (f : Figures). f .six) (figured .find-figures .ensures)
+              ∙ ap (λ j. stakesOf (s .args .rows .now) (matchTable found) (s .args .house .game) j (s .args .house .live)) (sym (number-six figured)),
+          (
+            (pools .primary, pools .secondary, pools .reimbursement, pools .debt),
+            λ i b. omega (arith, prizes-fit (model s) (s .args .number) (fit s) (prizeTable found) (prized found .prizes) i (omega (arith, count s))),
+          ),
         ),
       ),
     )
 
+abbrev figuredBefore : tie.After-settle-jackpot → tie.After-find-figures
+figuredBefore c = c .before .before .before .before
+
 abbrev foundBefore : tie.After-settle-jackpot → tie.After-find-prizes
-foundBefore c = c .before .before .before .before .before .before .before .before
+foundBefore c = foundFor (figuredBefore c)
 
 abbrev sixTable : tie.After-settle-jackpot → List ℕ
 sixTable c = c .settle-jackpot .last .1 .1 .1 .1 .1 .0
@@ -121,7 +142,8 @@ shared-six : (c : tie.After-settle-jackpot)
 unfolding view
 shared-six c =
     let s = startOf (foundBefore c) in
-    c .settle-jackpot .ensures (s .args .marks .now) (lastDraw (model s) (s .args .number)) (s .pre .0) (matches (foundBefore c))
+    subst (λ j. SharedOut (model s) j (drawOf s) (model s .six) (prizeTable (foundBefore c)) (sixTable c) (c .settle-jackpot .result)) (number-six (figuredBefore c))
+    (c .settle-jackpot .ensures (s .args .marks .now) (drawOf s) (s .pre .0) (matches (foundBefore c)))
 
 held-six : (c : tie.After-settle-jackpot)
     → take (length (model (startOf (foundBefore c)) .live)) (sixTable c)
@@ -138,13 +160,18 @@ settle-jackpot-requires-2 c κs =
     let six = c .before .before .before in
     let found = foundBefore six in
     let s = startOf found in
-    let pools = sure s .fit .eight in (
-      inr refl,
+    let pools = sure s .fit .eight in
+    let figured = figuredBefore six in (
+      inr (number-eight figured),
       (
         record { marks = s .args .marks .now; draw = drawOf s; reached = s .pre .0; matches = matches found },
         (
-          (pools .primary, pools .secondary, pools .reimbursement, pools .debt),
-          λ i b. omega (arith, six-fit (model s) (s .args .number) (fit s) (sixTable six) (held-six six) i (omega (arith, count s))),
+          ap (λ (f : Figures). f .eight) (figured .find-figures .ensures)
+              ∙ ap (λ j. stakesOf (s .args .rows .now) (matchTable found) (s .args .house .game) j (s .args .house .live)) (sym (number-eight figured)),
+          (
+            (pools .primary, pools .secondary, pools .reimbursement, pools .debt),
+            λ i b. omega (arith, six-fit (model s) (s .args .number) (fit s) (sixTable six) (held-six six) i (omega (arith, count s))),
+          ),
         ),
       ),
     )
@@ -158,18 +185,16 @@ begun c = startOf (foundBefore (sixBefore c))
 abbrev awardTable : tie.After-settle-jackpot2 → List ℕ
 awardTable c = c .settle-jackpot2 .last .1 .1 .1 .1 .1 .0
 
-abbrev staked : tie.After-settle-jackpot2 → tie.After-sum-stakes
-staked c = sixBefore c .before .before .before .before
-
-abbrev summed : tie.After-settle-jackpot2 → tie.After-sum-first
-summed c = staked c .before .before
+abbrev figures : tie.After-settle-jackpot2 → Figures
+figures c = figuredBefore (sixBefore c) .find-figures .result
 
 shared-eight : (c : tie.After-settle-jackpot2)
     → SharedOut (model (begun c)) 8 (lastDraw (model (begun c)) (begun c .args .number)) (model (begun c) .eight) (sixTable (sixBefore c)) (awardTable c) (c .settle-jackpot2 .result)
 unfolding view
 shared-eight c =
     let s = begun c in
-    c .settle-jackpot2 .ensures (s .args .marks .now) (lastDraw (model s) (s .args .number)) (s .pre .0) (matches (foundBefore (sixBefore c)))
+    subst (λ j. SharedOut (model s) j (drawOf s) (model s .eight) (sixTable (sixBefore c)) (awardTable c) (c .settle-jackpot2 .result)) (number-eight (figuredBefore (sixBefore c)))
+    (c .settle-jackpot2 .ensures (s .args .marks .now) (drawOf s) (s .pre .0) (matches (foundBefore (sixBefore c))))
 
 held : (c : tie.After-settle-jackpot2)
     → take (length (model (begun c) .live)) (awardTable c)
@@ -195,12 +220,15 @@ close-tickets-requires c κs =
     )
 
 found : (c : tie.After-settle-jackpot2)
-    → Found (model (begun c)) (begun c .args .number) (summed c .sum-first .result) (staked c .sum-stakes .result) (sixBefore c .settle-jackpot .result) (c .settle-jackpot2 .result)
+    → Found (model (begun c)) (begun c .args .number) (figures c .prizes) (figures c .stakes) (sixBefore c .settle-jackpot .result) (c .settle-jackpot2 .result)
 found c =
     let s = begun c in
-    found-by (model s) (s .args .number) (summed c .sum-first .result) (staked c .sum-stakes .result) (sixBefore c .settle-jackpot .result) (c .settle-jackpot2 .result)
+    let told = figuredBefore (sixBefore c) .find-figures .ensures in
+    found-by (model s) (s .args .number) (figures c .prizes) (figures c .stakes) (sixBefore c .settle-jackpot .result) (c .settle-jackpot2 .result)
     (prizeTable (foundBefore (sixBefore c))) (sixTable (sixBefore c)) (awardTable c)
-    (summed c .sum-first .ensures ∙ total (foundBefore (sixBefore c))) (staked c .sum-stakes .ensures (s .args .marks .now)) (shared-six (sixBefore c)) (shared-eight c)
+    (ap (λ (f : Figures). f .prizes) told ∙ total (foundBefore (sixBefore c)))
+    (ap (λ (f : Figures). f .stakes) told ∙ paid-view (s .args .house) (s .args .rows .now) (s .args .marks .now))
+    (shared-six (sixBefore c)) (shared-eight c)
 
 next-game-requires : tie.Need-next-game-requires
 unfolding view
@@ -222,7 +250,7 @@ add-accepted c =
 
 add-accepted-2 : tie.Need-add-accepted-2
 add-accepted-2 c =
-    let eight = c .before .before .before .before .before .before .before in
+    let eight = c .before .before .before .before .before .before .before .before in
     omega (arith, fit (begun eight) .owed, found eight .shares, found eight .prizes)
 
 accepted-requires : tie.Need-accepted-requires
@@ -231,7 +259,7 @@ accepted-requires c κs = search needs
 returns : tie.Need-returns
 unfolding view
 returns c =
-    let made = c .before .before .before in
+    let made = c .before .before .before .before in
     let closed = made .before in
     let eight = closed .before .before .before .before in
     let s = begun eight in
@@ -243,7 +271,7 @@ returns c =
     let stay = closed .close-tickets .ensures .1 (settlement (args .number) (model s) .awards) (ap (λ n. take n (awardTable eight)) (sym (count s)) ∙ held eight) in
     carried-done (args .house) (args .rows .now) (args .marks .now) (ball (args .number)) _ rows marks _ (s .pre .1 .0)
     (ap (λ h. view h rows marks) (c .accepted .ensures .0 ∙ made .next-game .ensures)
-    ∙ settled-view (args .house) (args .rows .now) (args .marks .now) rows marks (args .number) (closed .close-tickets .result) (summed eight .sum-first .result) (staked eight .sum-stakes .result) (sixBefore eight .settle-jackpot .result) (eight .settle-jackpot2 .result)
+    ∙ settled-view (args .house) (args .rows .now) (args .marks .now) rows marks (args .number) (closed .close-tickets .result) (figures eight .prizes) (figures eight .stakes) (sixBefore eight .settle-jackpot .result) (eight .settle-jackpot2 .result)
     (omega (arith, closed .close-tickets .ensures .0, few s)) stay f
     ∙ sym (last .0))
     (c .accepted .ensures .1 ∙ ap₂ (λ (p q : ℕ). replies 20 (p + q)) (f .prizes) (f .shares) ∙ sym (last .1))
@@ -254,8 +282,7 @@ settle-game-spec =
     (tie.spec
     balls-with-requires
     find-prizes-requires
-    sum-first-requires
-    sum-stakes-requires
+    find-figures-requires
     settle-jackpot-requires
     settle-jackpot-requires-2
     close-tickets-requires

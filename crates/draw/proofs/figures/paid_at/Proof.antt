@@ -1,9 +1,9 @@
--- `house::shares::stakes_at` meets its contract: each test that fails leaves nothing, and where all hold the game is paid for.
-use Rattle.draw.proofs.SharingLaws.{stakes-of-other, stakes-ahead, stakes-past, stakes-free, stakes-paid}
+-- `draw::figures::paid_at` meets its contract: each test that fails leaves nothing, and where all hold the game is paid for.
 use mathlib.Core.Path.{sym}
+use Rattle.draw.proofs.SharingLaws.{paid-ahead, paid-past, paid-free, paid-whole}
 use borrow.Author.Needs.{needs}
-use Rattle.draw.proofs.shares.stakes_at.Statement.{statement}
-use Rattle.draw.proofs.shares.stakes_at.Tie as tie
+use Rattle.draw.proofs.figures.paid_at.Statement.{statement}
+use Rattle.draw.proofs.figures.paid_at.Tie as tie
 
 mul-at : tie.Need-mul-at
 mul-at c = search needs
@@ -20,7 +20,7 @@ element-copy-out-if1 c = search needs
 returns : tie.Need-returns
 returns c =
     let args = c .before .before .args in
-    sym (stakes-of-other (args .rows .now) (args .game) (args .jackpot) (args .i) (c .if1 .taken))
+    sym (paid-ahead (args .rows .now) (args .game) (args .i) (c .if1 .taken))
 
 add-if2 : tie.Need-add-if2
 add-if2 c = search needs
@@ -34,7 +34,7 @@ element-copy-out-if2 c = search needs
 returns-2 : tie.Need-returns-2
 returns-2 c =
     let args = c .before .before .before .before .args in
-    sym (stakes-ahead (args .rows .now) (args .game) (args .jackpot) (args .i) (c .if2 .taken))
+    sym (paid-past (args .rows .now) (args .game) (args .i) (c .if2 .taken))
 
 add-if3 : tie.Need-add-if3
 add-if3 c = search needs
@@ -48,21 +48,7 @@ element-copy-out-if3 c = search needs
 returns-3 : tie.Need-returns-3
 returns-3 c =
     let args = c .before .before .before .before .before .before .args in
-    sym (stakes-past (args .rows .now) (args .game) (args .jackpot) (args .i) (c .if3 .taken))
-
-add-if4 : tie.Need-add-if4
-add-if4 c = search needs
-
-mul-if4 : tie.Need-mul-if4
-mul-if4 c = search needs
-
-element-copy-out-if4 : tie.Need-element-copy-out-if4
-element-copy-out-if4 c = search needs
-
-returns-4 : tie.Need-returns-4
-returns-4 c =
-    let args = c .before .before .before .before .before .before .before .before .args in
-    sym (stakes-free (args .rows .now) (args .game) (args .jackpot) (args .i) (c .if4 .taken))
+    sym (paid-free (args .rows .now) (args .game) (args .i) (c .if3 .taken))
 
 add-result : tie.Need-add-result
 add-result c = search needs
@@ -85,19 +71,18 @@ element-copy-out-result-2 c = search needs
 mul-result-3 : tie.Need-mul-result-3
 mul-result-3 c = search needs
 
-returns-5 : tie.Need-returns-5
-returns-5 c =
+returns-4 : tie.Need-returns-4
+returns-4 c =
     let left = c .before .before in
-    let args = left .before .before .before .before .before .before .before .before .args in
+    let args = left .before .before .before .before .before .before .args in
     sym
-    (stakes-paid (args .rows .now) (args .game) (args .jackpot) (args .i)
-    (left .before .before .before .before .before .before .if1 .left)
-    (left .before .before .before .before .if2 .left)
-    (left .before .before .if3 .left)
-    (left .if4 .left))
+    (paid-whole (args .rows .now) (args .game) (args .i)
+    (left .before .before .before .before .if1 .left)
+    (left .before .before .if2 .left)
+    (left .if3 .left))
 
-pub stakes-at-spec : {M : Type 1} → statement M
-stakes-at-spec =
+pub paid-at-spec : {M : Type 1} → statement M
+paid-at-spec =
     tie.close
     (tie.spec
     mul-at
@@ -113,10 +98,6 @@ stakes-at-spec =
     mul-if3
     element-copy-out-if3
     returns-3
-    add-if4
-    mul-if4
-    element-copy-out-if4
-    returns-4
     add-result
     mul-result
     element-copy-out-result
@@ -124,4 +105,4 @@ stakes-at-spec =
     mul-result-2
     element-copy-out-result-2
     mul-result-3
-    returns-5)
+    returns-4)
