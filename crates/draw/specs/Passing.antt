@@ -1,44 +1,60 @@
--- What the private parts of a command's code rely on and hand on to one another.
+-- What the private parts that find a game's prizes rely on and hand on to one another.
 use Prim.Native.Nat.{ℕ, _+_, _*_, _≤_, _<_, _^_}
 use mathlib.Core.Path.{_≡_}
-use mathlib.Core.List.{List, map}
+use mathlib.Core.List.{List, [], _∷_, _++_, map, List·Memᴰ}
 use lib.ListN.{length, take, getD}
-use Rattle.rules.specs.Lists.{sum, below}
+use lib.Seq.{sets}
+use Rattle.rules.specs.Lists.{sum, below, keep}
 use Rattle.rules.specs.Checks.{operandCode}
-use Rattle.rules.specs.Ways.{sizes, hits}
-use Rattle.rules.specs.Prize.{prizeLimit}
-use Rattle.rules.specs.Settle.{majorsOf}
+use Rattle.rules.specs.Ways.{sizes, sizeWord}
+use Rattle.rules.specs.Prize.{isMajor}
+use Rattle.rules.specs.Cut.{payout}
+use Rattle.rules.specs.Found.{sureOf}
+use Rattle.rules.specs.Rounds.{Pays}
 use Rattle.rules.specs.declared.terms.Draw.{Draw}
+use Rattle.rules.specs.declared.found.Found.{Found}
 use Rattle.rules.specs.declared.cut.Cut.{Cut}
 use Rattle.house.specs.Tickets.{Ticket}
 use Rattle.house.specs.View.{ticketIn}
-use Rattle.draw.specs.Settling.{spread, foundIn, passOf, entriesOf, prizesIn}
+use Rattle.draw.specs.Settling.{prizesAt, matchesAt}
 use Rattle.house.specs.declared.rows.Row.{Row}
-use Rattle.draw.specs.declared.prizes.Groups.{Groups}
-use Rattle.draw.specs.declared.prizes.Totals.{Totals}
 
 -- the first tickets of the lent buffers
 abbrev pub liveIn : List ℕ → List ℕ → ℕ → List Ticket
 liveIn words marks live = map (ticketIn words marks) (below live)
 
--- the sizes and hits of a ticket's groups, from its marks
-abbrev pub groupsOf : Draw → List ℕ → Groups
-groupsOf draw own = record { sizes = sizes own; hits = hits draw own }
+-- the prizes of each of them, before any cut
+abbrev pub prizesBelow : List ℕ → List ℕ → ℕ → Draw → ℕ → List (List ℕ)
+prizesBelow words marks game draw live = map (λ k. prizesAt game draw (ticketIn words marks k)) (below live)
+
+-- what prizes are paid in any case
+abbrev pub sureCents : List ℕ → ℕ
+sureCents ps = sum (map sureOf ps)
+
+-- the major prizes of all tickets, from the prizes of each
+unfoldable pub allMajors : List (List ℕ) → List ℕ
+allMajors [] = []
+allMajors (ps ∷ pss) = keep isMajor ps ++ allMajors pss
+
+-- a ticket with operands that Sell accepts, and the sizes of its groups
+pub record Sold (t : Ticket) : Type 0 where
+  pub checked : operandCode (t .operands) ≡ 0
+  pub sized : t .sizes ≡ sizeWord (sizes (t .operands .marks))
+
+-- such a ticket at a place of the buffers
+pub record SoldAt (words marks : List ℕ) (i : ℕ) : Type 0 where
+  pub place : i < 200
+  pub sold : Sold (ticketIn words marks i)
+
+-- no more of them than the buffers hold
+pub record SoldAll (words marks : List ℕ) (live : ℕ) : Type 0 where
+  pub few : live ≤ 200
+  pub each : (i : ℕ) → i < live → Sold (ticketIn words marks i)
 
 -- a place whose marks are among those that are lent
 pub record Inside (marks : List ℕ) (i : ℕ) : Type 0 where
   pub place : i < 200
   pub own : i * 80 + 80 ≤ length marks
-
--- a place of the buffers with a ticket whose operands Sell accepts
-pub record Accepted (words marks : List ℕ) (i : ℕ) : Type 0 where
-  pub place : i < 200
-  pub checked : operandCode (ticketIn words marks i .operands) ≡ 0
-
--- no more of them than the buffers hold, and each with operands that Sell accepts
-pub record Checked (words marks : List ℕ) (live : ℕ) : Type 0 where
-  pub few : live ≤ 200
-  pub each : (i : ℕ) → i < live → operandCode (ticketIn words marks i .operands) ≡ 0
 
 -- a row whose words fit the fields of a ticket's terms
 pub record Narrow (w : Row) : Type 0 where
@@ -48,36 +64,42 @@ pub record Narrow (w : Row) : Type 0 where
   pub groups : w .groups < 2 ^ 8
   pub types : w .types < 2 ^ 8
 
--- the first pass over the ways of tickets: each one's figures in three tables, and the major prizes together
-pub record FoundAll (game : ℕ) (draw : Draw) (ts : List Ticket) (paid full majors : List ℕ) (total : ℕ) : Type 0 where
-  pub prizes : take (length ts) paid ≡ map (λ t. foundIn game draw t .prizes) ts
-  pub matches : take (length ts) full ≡ map (λ t. foundIn game draw t .full) ts
-  pub majorPrizes : take (length ts) majors ≡ map (λ t. foundIn game draw t .majors) ts
-  pub together : total ≡ sum (map (λ t. foundIn game draw t .majors) ts)
-  pub fits : total < 2 ^ 63
+-- the pass over the ways of a ticket, where so many major prizes were found before it
+pub record FoundAt (game : ℕ) (draw : Draw) (t : Ticket) (before : ℕ) (majors : List ℕ) (r : Found) (majors′ : List ℕ) : Type 0 where
+  pub sure : r .sure ≡ sureCents (prizesAt game draw t)
+  pub full : r .full ≡ matchesAt game draw t
+  pub count : r .majors ≡ before + length (keep isMajor (prizesAt game draw t))
+  pub stored : majors′ ≡ sets majors before (keep isMajor (prizesAt game draw t))
 
--- what a round knows of a ticket: the cents of its major prizes, and what it is paid where it has none
-pub record Known (game : ℕ) (draw : Draw) (t : Ticket) (majors paid : ℕ) : Type 0 where
-  pub found : majors ≡ foundIn game draw t .majors
-  pub uncut : majors ≡ 0 → paid ≡ foundIn game draw t .prizes
+-- Of the tickets whose prizes these are: what each is paid in any case, and how many major prizes those up to it have, in a table each.
+pub record Tables (pss : List (List ℕ)) (sure ends : List ℕ) : Type 0 where
+  pub cents : take (length pss) sure ≡ map sureCents pss
+  pub upTo : (i : ℕ) → i < length pss → getD ends i 0 ≡ length (allMajors (take (i + 1) pss))
 
--- the same of each of the first tickets, in two tables
-pub record Ready (words marks : List ℕ) (live game : ℕ) (draw : Draw) (majors paid : List ℕ) : Type 0 where
-  pub each : (i : ℕ) → i < live → Known game draw (ticketIn words marks i) (getD majors i 0) (getD paid i 0)
+-- the pass over all tickets: these tables, one of full matches, and one of the major prizes, as far as it goes
+pub record FoundAll (words marks : List ℕ) (game : ℕ) (draw : Draw) (live : ℕ) (sure full ends before majors : List ℕ) (count : ℕ) : Type 0 where
+  pub tables : Tables (prizesBelow words marks game draw live) sure ends
+  pub matches : take live full ≡ map (matchesAt game draw) (liveIn words marks live)
+  pub listed : majors ≡ sets before 0 (allMajors (prizesBelow words marks game draw live))
+  pub together : count ≡ length (allMajors (prizesBelow words marks game draw live))
 
--- a round's pass over the ways of tickets: what each one is paid, in a table, and the totals
-pub record Passed (game : ℕ) (draw : Draw) (c : Cut) (next : ℕ) (ts : List Ticket) (paid : List ℕ) (r : Totals) : Type 0 where
-  pub prizes : take (length ts) paid ≡ map (λ t. passOf game draw c next t .paid) ts
-  pub floored : r .floored ≡ sum (map (λ t. passOf game draw c next t .floored) ts)
-  pub rest : r .rest ≡ sum (map (λ t. passOf game draw c next t .rest) ts)
-  pub fits : r .rest < 2 ^ 63
+-- the same tables of at most 200 tickets, all their major prizes in a table, and the state of the cut under which they are paid by the rule
+pub record Cutting (pss : List (List ℕ)) (sure ends majors : List ℕ) (c : Cut) : Type 0 where
+  pub few : length pss ≤ 200
+  pub ways : (i : ℕ) → length (getD pss i []) ≤ 255
+  pub tables : Tables pss sure ends
+  pub long : length majors ≡ 250
+  pub rest : List ℕ
+  pub whole : majors ≡ allMajors pss ++ rest
+  pub small : (p : ℕ) → List·Memᴰ p (allMajors pss) → p < 2 ^ 40
+  pub pays : Pays c (allMajors pss)
 
--- the major prizes of a game make so many cents, which pass the limit
-pub record PastLimit (game : ℕ) (draw : Draw) (ts : List Ticket) (cents : ℕ) : Type 0 where
-  pub total : cents ≡ sum (majorsOf draw (entriesOf game ts))
-  pub past : prizeLimit < cents
-  pub fits : cents < 2 ^ 63
+-- the same, whichever the prizes are
+pub record CutOf (live : ℕ) (sure ends majors : List ℕ) (c : Cut) : Type 0 where
+  pub prizes : List (List ℕ)
+  pub count : length prizes ≡ live
+  pub cutting : Cutting prizes sure ends majors c
 
--- the prizes of a game, as cut, in a table
-pub record PaidOut (game : ℕ) (draw : Draw) (ts : List Ticket) (paid : List ℕ) : Type 0 where
-  pub prizes : take (length ts) paid ≡ spread game (prizesIn game draw ts) ts
+-- what each ticket is paid, in a table
+abbrev pub Raised : List (List ℕ) → List ℕ → Type 0
+Raised pss paid = take (length pss) paid ≡ map (λ ps. sum (map (payout (allMajors pss)) ps)) pss

@@ -6,15 +6,10 @@ use mathlib.Core.Bool.{cond}
 use mathlib.Core.List.{List, [], _∷_, map, zipWith}
 use lib.ListN.{length, take}
 use Rattle.rules.specs.Lists.{sum, keep}
-use Rattle.rules.specs.Ways.{sizes, hits}
-use Rattle.rules.specs.Settle.{Entry, JackpotResult, majorsOf, prizesOf, fullMatches, settleJackpot}
+use Rattle.rules.specs.Settle.{Entry, JackpotResult, wayPrizes, majorsOf, prizesOf, fullMatches, settleJackpot}
 use Rattle.rules.specs.Jackpots.{guaranteeOfSix, guaranteeOfEight}
-use Rattle.rules.specs.Passes.{foundOf, nothing, sumsOf, noSums}
 use Rattle.rules.specs.declared.terms.Draw.{Draw}
-use Rattle.rules.specs.declared.cut.Cut.{Cut}
-use Rattle.rules.specs.declared.found.Found.{Found}
-use Rattle.rules.specs.declared.sums.Sums.{Sums}
-use Rattle.house.specs.Tickets.{Ticket, termsOf, runsIn, entryOf}
+use Rattle.house.specs.Tickets.{Ticket, runsIn, entryOf}
 use Rattle.house.specs.Model.{Model}
 use Rattle.house.specs.Balance.{Reached}
 use Rattle.house.specs.View.{view}
@@ -33,19 +28,13 @@ spread game [] (t ∷ ts) = 0 ∷ spread game [] ts
 spread game (x ∷ figures) (t ∷ ts) =
     cond (runsIn game t) (x ∷ spread game figures ts) (0 ∷ spread game (x ∷ figures) ts)
 
--- what a ticket's ways win before any cut, and nothing for one that does not run
-unfoldable pub foundIn : ℕ → Draw → Ticket → Found
-foundIn game draw t =
-    cond (runsIn game t)
-    (foundOf (termsOf (t .operands)) (sizes (t .operands .marks)) (hits draw (t .operands .marks)))
-    nothing
+-- the prizes of a ticket's ways before any cut, and none for one that does not run
+unfoldable pub prizesAt : ℕ → Draw → Ticket → List ℕ
+prizesAt game draw t = cond (runsIn game t) (wayPrizes draw (entryOf game t)) []
 
--- what a round's pass over a ticket's ways finds, and nothing for one that does not run
-unfoldable pub passOf : ℕ → Draw → Cut → ℕ → Ticket → Sums
-passOf game draw c next t =
-    cond (runsIn game t)
-    (sumsOf (termsOf (t .operands)) (sizes (t .operands .marks)) (hits draw (t .operands .marks)) c next)
-    noSums
+-- the ways of a ticket that match all their numbers, none for one that does not run
+unfoldable pub matchesAt : ℕ → Draw → Ticket → ℕ
+matchesAt game draw t = cond (runsIn game t) (fullMatches draw (entryOf game t)) 0
 
 -- the prizes of each entry, as cut
 unfoldable pub prizesIn : ℕ → Draw → List Ticket → List ℕ

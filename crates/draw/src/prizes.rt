@@ -1,39 +1,31 @@
-// The prizes of a drawn game: each ticket's, as cut, and its full matches. One pass over all tickets finds the prizes before any cut; where
-// they are cut, each round is one more pass over the tickets that have a major prize, since no other's prizes change.
+// The prizes of a drawn game: each ticket's, as cut, and its full matches. One pass over the ways of all tickets finds what is sure of each prize, of
+// a major one the floor, and lists the major prizes. Where they are fewer than 250, the cut goes over that list and each is raised to what it
+// is paid; of 250 or more each is paid the floor.
 use house::rows;
 use house::rows::Row;
 use house::state::House;
 use rules::cut::Cut;
 use rules::found;
 use rules::found::Found;
-use rules::marks;
-use rules::sums;
-use rules::sums::Sums;
+use rules::majors::cut_of;
+use rules::majors::raise_of;
+use rules::marks::group_table;
 use rules::terms::Draw;
 use rules::terms::Kind;
 use rules::terms::Terms;
 ghost use mathlib.Core.Path.{_≡_};
 ghost use mathlib.Core.Bool.{_&&_};
-ghost use mathlib.Core.List.{[]};
+ghost use mathlib.Core.List.{List, []};
+ghost use Prim.Native.Nat.{ℕ};
 ghost use lib.Dec.{ltb, leb};
 ghost use lib.ListN.{length};
+ghost use Rattle.rules.specs.Found.{Counting, GroupsOf};
+ghost use Rattle.rules.specs.Bounds.{Grouping};
 ghost use Rattle.house.specs.Tickets.{termsOf};
 ghost use Rattle.house.specs.Balance.{Reached};
 ghost use Rattle.house.specs.View.{view, marksAt, ticketFrom, ticketIn};
-ghost use Rattle.draw.specs.Settling.{Prized, foundIn, passOf};
-ghost use Rattle.draw.specs.Passing.{groupsOf, liveIn, Inside, Accepted, Checked, Narrow, Known, Ready, FoundAll, Passed, PastLimit, PaidOut};
-
-// Of all major prizes of a game: how many the next round of the cut floors, and the cents of the others.
-struct Totals {
-    floored: u64,
-    rest: u64,
-}
-
-// How many numbers each group of a ticket marks, and how many of them are drawn.
-struct Groups {
-    sizes: [u8; 8],
-    hits: [u8; 8],
-}
+ghost use Rattle.draw.specs.Settling.{Prized};
+ghost use Rattle.draw.specs.Passing.{Inside, SoldAt, SoldAll, Narrow, FoundAt, FoundAll, Cutting, CutOf, Raised};
 
 // A table is as long as its type says: learnt by lending it as a slice.
 fn known_table(table: &[u64; 200])
@@ -69,41 +61,43 @@ fn is_running(first: u64, stop: u64, game: u64) -> bool
 }
 
 // The groups of the ticket at a place, whose marks are a part of those that are lent.
-fn ticket_groups(marks: &[u8], i: usize, draw: Draw) -> Groups
-    requires { ⌜ Inside (now marks) i ⌝ }
-    ensures { λ r. ⌜ r ≡ groupsOf draw (marksAt (now (marks .entry)) i) ⌝ }
+fn ticket_groups(marks: &[u8], i: usize, word: u64, draw: Draw) -> [u32; 9]
+    requires { ⌜ Inside (now marks) i × Grouping (marksAt (now marks) i) ⌝ }
+    ensures { λ r. ⌜ GroupsOf word draw (marksAt (now (marks .entry)) i) r ⌝ }
 {
     let from = i * 80;
     let end = from + 80;
     let own = &marks[from..end];
-    let sizes = marks::group_sizes(own);
-    let hits = marks::group_hits(draw, own);
-    Groups { sizes, hits }
+    group_table(word, draw, own)
 }
 
-// What the ways of the ticket at a place win before any cut: nothing where it does not run in the game.
-fn find_ticket(rows: &[u64; 3200], marks: &[u8; 16000], i: usize, game: u64, draw: Draw) -> Found
-    requires { ⌜ Accepted (now rows) (now marks) i ⌝ }
-    ensures { λ r. ⌜ r ≡ foundIn game draw (ticketIn (now (rows .entry)) (now (marks .entry)) i) ⌝ }
+// What the ways of the ticket at a place win: nothing where it does not run in the game.
+fn find_ticket(
+    rows: &[u64; 3200],
+    marks: &[u8; 16000],
+    i: usize,
+    game: u64,
+    draw: Draw,
+    before: u64,
+    majors: &mut [u64; 250],
+) -> Found
+    requires { ⌜ SoldAt (now rows) (now marks) i × Counting before ⌝ }
+    ensures { λ r. ⌜ FoundAt game draw (ticketIn (now (rows .entry)) (now (marks .entry)) i) before (now (majors .entry)) r (now (majors .exit)) ⌝ }
 {
     let row = rows::read_row(rows, i);
     if !is_running(row.first, row.stop, game) {
         return Found {
-            prizes: 0,
-            majors: 0,
+            sure: 0,
             full: 0,
+            majors: before,
         };
     }
     rows::known_marks(marks);
-    let terms = row_terms(row);
-    let groups = ticket_groups(marks, i, draw);
-    let sizes = groups.sizes;
-    let hits = groups.hits;
-    found::ticket_prizes(terms, sizes, hits)
+    let groups = ticket_groups(marks, i, row.sizes, draw);
+    found::ticket_prizes(row_terms(row), &groups, before, majors)
 }
 
-// The first pass: what each live ticket wins before any cut, its full matches and its major prizes, in a table each. All major prizes
-// together.
+// The pass: of each live ticket what is sure, its full matches, and the number of major prizes up to it, in a table each. All major prizes.
 fn find_all(
     rows: &[u64; 3200],
     marks: &[u8; 16000],
@@ -112,122 +106,41 @@ fn find_all(
     draw: Draw,
     paid: &mut [u64; 200],
     full: &mut [u64; 200],
-    majors: &mut [u64; 200],
+    ends: &mut [u64; 200],
+    majors: &mut [u64; 250],
 ) -> u64
-    requires { ⌜ Checked (now rows) (now marks) live ⌝ }
-    ensures { λ r. ⌜ FoundAll game draw (liveIn (now (rows .entry)) (now (marks .entry)) live) (now (paid .exit)) (now (full .exit)) (now (majors .exit)) r ⌝ }
+    requires { ⌜ SoldAll (now rows) (now marks) live ⌝ }
+    ensures { λ r. ⌜ FoundAll (now (rows .entry)) (now (marks .entry)) game draw live (now (paid .exit)) (now (full .exit)) (now (ends .exit)) (now (majors .entry)) (now (majors .exit)) r ⌝ }
 {
     known_table(paid);
     known_table(full);
-    known_table(majors);
-    let mut total: u64 = 0;
+    known_table(ends);
+    let mut count: u64 = 0;
     let mut i: usize = 0;
     while i < live {
-        let found = find_ticket(rows, marks, i, game, draw);
-        paid[i] = found.prizes;
+        let found = find_ticket(rows, marks, i, game, draw, count, majors);
+        paid[i] = found.sure;
         full[i] = found.full;
-        majors[i] = found.majors;
-        total += found.majors;
+        ends[i] = found.majors;
+        count = found.majors;
         i += 1;
     }
-    total
+    count
 }
 
-// What a round finds of the ticket at a place, of whose prizes `majors` cents are major ones. Where none is, it is paid as before.
-fn pass_ticket(
-    rows: &[u64; 3200],
-    marks: &[u8; 16000],
-    i: usize,
-    game: u64,
-    draw: Draw,
-    cut: Cut,
-    next: u64,
-    majors: u64,
-    paid: u64,
-) -> Sums
-    requires { ⌜ Accepted (now rows) (now marks) i × Known game draw (ticketIn (now rows) (now marks) i) majors paid ⌝ }
-    ensures { λ r. ⌜ r ≡ passOf game draw cut next (ticketIn (now (rows .entry)) (now (marks .entry)) i) ⌝ }
-{
-    if majors == 0 {
-        return Sums {
-            paid,
-            floored: 0,
-            rest: 0,
-        };
-    }
-    let row = rows::read_row(rows, i);
-    if !is_running(row.first, row.stop, game) {
-        return Sums {
-            paid: 0,
-            floored: 0,
-            rest: 0,
-        };
-    }
-    rows::known_marks(marks);
-    let terms = row_terms(row);
-    let groups = ticket_groups(marks, i, draw);
-    let sizes = groups.sizes;
-    let hits = groups.hits;
-    sums::ticket_sums(terms, sizes, hits, cut, next)
-}
-
-// One round: what each live ticket is paid under a state of the cut, and the totals for the next.
-fn pass(
-    rows: &[u64; 3200],
-    marks: &[u8; 16000],
-    live: usize,
-    game: u64,
-    draw: Draw,
-    cut: Cut,
-    next: u64,
-    majors: &[u64; 200],
-    paid: &mut [u64; 200],
-) -> Totals
-    requires { ⌜ Checked (now rows) (now marks) live × Ready (now rows) (now marks) live game draw (now majors) (now paid) ⌝ }
-    ensures { λ r. ⌜ Passed game draw cut next (liveIn (now (rows .entry)) (now (marks .entry)) live) (now (paid .exit)) r ⌝ }
+// Each ticket's major prizes raised from the floor to what they are paid under a state of the cut.
+fn raise_all(live: usize, ends: &[u64; 200], majors: &[u64; 250], cut: Cut, paid: &mut [u64; 200])
+    requires { ⌜ CutOf live (now paid) (now ends) (now majors) cut ⌝ }
+    ensures { λ r. ⌜ ((pss : List (List ℕ)) → length pss ≡ live → Cutting pss (now (paid .entry)) (now (ends .entry)) (now (majors .entry)) cut → Raised pss (now (paid .exit))) ⌝ }
 {
     known_table(paid);
-    let mut floored: u64 = 0;
-    let mut rest: u64 = 0;
+    let mut from: usize = 0;
     let mut i: usize = 0;
     while i < live {
-        let sums = pass_ticket(rows, marks, i, game, draw, cut, next, majors[i], paid[i]);
-        paid[i] = sums.paid;
-        floored += sums.floored;
-        rest += sums.rest;
+        let end = ends[i] as usize;
+        paid[i] += raise_of(majors, from, end - from, cut);
+        from = end;
         i += 1;
-    }
-    Totals { floored, rest }
-}
-
-// The rounds of the cut, where the major prizes make `total` cents: a pass for each, until one floors no more.
-fn cut_rounds(
-    rows: &[u64; 3200],
-    marks: &[u8; 16000],
-    live: usize,
-    game: u64,
-    draw: Draw,
-    total: u64,
-    majors: &[u64; 200],
-    paid: &mut [u64; 200],
-)
-    requires { ⌜ Checked (now rows) (now marks) live × PastLimit game draw (liveIn (now rows) (now marks) live) total × Ready (now rows) (now marks) live game draw (now majors) (now paid) ⌝ }
-    ensures { λ r. ⌜ PaidOut game draw (liveIn (now (rows .entry)) (now (marks .entry)) live) (now (paid .exit)) ⌝ }
-{
-    let mut cut = Cut::first(total);
-    loop {
-        let next = cut.next_below();
-        let totals = pass(rows, marks, live, game, draw, cut, next, majors, paid);
-        let floored = totals.floored;
-        let count = cut.count;
-        if floored == count {
-            return;
-        }
-        cut = Cut {
-            below: next,
-            count: floored,
-            base: totals.rest,
-        };
     }
 }
 
@@ -245,10 +158,22 @@ pub fn find_prizes(
 {
     let live = house.live as usize;
     let game = house.game;
-    let mut majors = [0u64; 200];
-    let total = find_all(rows, marks, live, game, draw, paid, full, &mut majors);
-    if total <= 5_000_000 {
+    let mut ends = [0u64; 200];
+    let mut majors = [0u64; 250];
+    let count = find_all(
+        rows,
+        marks,
+        live,
+        game,
+        draw,
+        paid,
+        full,
+        &mut ends,
+        &mut majors,
+    );
+    if 250 <= count {
         return;
     }
-    cut_rounds(rows, marks, live, game, draw, total, &majors, paid);
+    let cut = cut_of(&majors, count as usize);
+    raise_all(live, &ends, &majors, cut, paid);
 }

@@ -3,7 +3,7 @@
 -- can share; with 250 the sums are equal, and so each of the inequalities is an equation. A member of ps is a `List·Memᴰ p ps`.
 use mathlib.Core.Path.{_≡_, refl, sym, ap, _∙_, subst}
 use mathlib.Core.Bool.{Bool, true, false, cond, not, false≢true}
-use mathlib.Core.List.{List, [], _∷_, List·Memᴰ, List·Memᴰ·head, List·Memᴰ·tail}
+use mathlib.Core.List.{List, [], _∷_, map, List·Memᴰ, List·Memᴰ·head, List·Memᴰ·tail}
 use Prim.Native.Nat.{ℕ, suc, _+_, _*_, _-_, _/_, _≤_, _<_}
 use native.Mathlib.Nat.{add-mul, mul-add, mul-comm, mul-left-comm, mul-zero, mul-one, mul-div-cancel, suc-mul, le-div-iff-mul-le, mul-le-mul-right, le-antisymm}
 use native.Mathlib.Omega.{arith}
@@ -13,9 +13,11 @@ use borrow.Author.Tests.{ltb-false, le-leb, leb-true, leb-false}
 use Rattle.rules.specs.Lists.{sum, keep}
 use Rattle.rules.specs.Prize.{prizeLimit, majorFloor, isMajor}
 use Rattle.rules.specs.Cut.{floorCount, cutBase, joins, flooredOf, cutPrize, payout}
+use Rattle.rules.specs.Found.{sureOf}
+use Rattle.rules.proofs.KeepLaws.{sum-within}
 use Rattle.rules.proofs.CutRounds.{rounds-end}
 use Rattle.rules.proofs.CutStates.{outside-le-base}
-use Rattle.rules.proofs.CutPayouts.{payout-uncut, share-above-zero}
+use Rattle.rules.proofs.CutPayouts.{payout-minor, share-above-zero}
 
 -- ---- an inequality that holds of each number of a list, summed, with what one of them has to spare
 
@@ -191,3 +193,38 @@ payout-floor ps p m major = rw (le-leb majorFloor p major) (go (leb (sum ps) pri
     go : (t : Bool) → majorFloor ≤ cond t p (cutPrize ps p)
     go true = major
     go false = cut-floor ps p m (omega arith)
+
+-- ---- prizes of which the major ones begin at the floor
+
+-- what some prizes of a game are paid: what is sure of each, and what a major one is raised by
+pub paid-raised : (ps qs : List ℕ) → ((p : ℕ) → List·Memᴰ p (keep isMajor qs) → majorFloor ≤ payout ps p)
+    → sum (map (payout ps) qs) ≡ sum (map sureOf qs) + sum (map (λ p. payout ps p - majorFloor) (keep isMajor qs))
+unfolding sum keep
+paid-raised ps [] least = refl
+paid-raised ps (q ∷ qs) least = go (isMajor q) refl least (paid-raised ps qs)
+  where
+    raised : List ℕ → ℕ
+    raised l = sum (map (λ p. payout ps p - majorFloor) l)
+
+    go : (t : Bool) → isMajor q ≡ t → ((p : ℕ) → List·Memᴰ p (cond t (q ∷ keep isMajor qs) (keep isMajor qs)) → majorFloor ≤ payout ps p)
+        → (((p : ℕ) → List·Memᴰ p (keep isMajor qs) → majorFloor ≤ payout ps p)
+        → sum (map (payout ps) qs) ≡ sum (map sureOf qs) + sum (map (λ p. payout ps p - majorFloor) (keep isMajor qs)))
+        → payout ps q + sum (map (payout ps) qs)
+        ≡ sureOf q + sum (map sureOf qs) + sum (map (λ p. payout ps p - majorFloor) (cond t (q ∷ keep isMajor qs) (keep isMajor qs)))
+    go true e each rest =
+        omega (
+          arith,
+          leb-true majorFloor q e,
+          each q (List·Memᴰ·head refl),
+          rest (λ p m. each p (List·Memᴰ·tail m)),
+        )
+    go false e each rest =
+        omega (arith, leb-false majorFloor q e, payout-minor ps q (leb-false majorFloor q e), rest each)
+
+-- where each major prize is paid the floor, that is what is sure
+pub paid-sure : (ps qs : List ℕ) → ((p : ℕ) → List·Memᴰ p (keep isMajor qs) → payout ps p ≡ majorFloor)
+    → sum (map (payout ps) qs) ≡ sum (map sureOf qs)
+paid-sure ps qs each =
+    let raise : sum (map (λ p. payout ps p - majorFloor) (keep isMajor qs)) ≤ length (keep isMajor qs) * 0 =
+    sum-within (λ p. payout ps p - majorFloor) 0 (keep isMajor qs) (λ p m. omega (arith, each p m)) in
+    omega (arith, paid-raised ps qs (λ p m. omega (arith, each p m)), mul-zero (length (keep isMajor qs)))

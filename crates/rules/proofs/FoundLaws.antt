@@ -25,7 +25,7 @@ use Rattle.rules.proofs.WalkLaws.{waysFrom-ways}
 
 -- ---- stores one behind the other
 
-sets-append : (xs ys l : List ℕ) (i : ℕ) → sets (sets l i xs) (i + length xs) ys ≡ sets l i (xs ++ ys)
+pub sets-append : (xs ys l : List ℕ) (i : ℕ) → sets (sets l i xs) (i + length xs) ys ≡ sets l i (xs ++ ys)
 sets-append [] ys l i = ap (λ (n : ℕ). sets l n ys) (add-zero i)
 sets-append (x ∷ xs) ys l i =
     ap (λ (n : ℕ). sets (sets (set l i x) (suc i) xs) n ys) (add-suc i (length xs) ∙ sym (suc-add i (length xs)))

@@ -61,7 +61,7 @@ pub record PastLimit (ps : List ℕ) (cents : ℕ) : Type 0 where
   pub past : prizeLimit < cents
 
 -- prizes of a table, from a place on and so many, that are paid from the floor to the limit
-pub record Raised (c : Cut) (table : List ℕ) (from many : ℕ) : Type 0 where
+pub record Raisable (c : Cut) (table : List ℕ) (from many : ℕ) : Type 0 where
   pub inside : from + many ≤ 250
   pub long : length table ≡ 250
   pub small : (p : ℕ) → List·Memᴰ p (take many (drop from table)) → p < 2 ^ 40

@@ -7,7 +7,7 @@ ghost use Prim.Native.Nat.{_-_};
 ghost use lib.ListN.{length, take, drop};
 ghost use Rattle.rules.specs.Lists.{sum};
 ghost use Rattle.rules.specs.Prize.{majorFloor};
-ghost use Rattle.rules.specs.Rounds.{payUnder, cutBelow, Pays, Listed, PastLimit, Raised};
+ghost use Rattle.rules.specs.Rounds.{payUnder, cutBelow, Pays, Listed, PastLimit, Raisable};
 
 // The first prizes of the table together.
 fn sum_of(majors: &[u64; 250], count: usize) -> u64
@@ -76,7 +76,7 @@ pub fn cut_of(majors: &[u64; 250], count: usize) -> Cut
 
 // What the prizes from a place on, `many` of them, are paid above the floor.
 pub fn raise_of(majors: &[u64; 250], from: usize, many: usize, cut: Cut) -> u64
-    requires { ⌜ Raised cut (now majors) from many ⌝ }
+    requires { ⌜ Raisable cut (now majors) from many ⌝ }
     ensures { λ r. ⌜ r ≡ sum (map (λ p. payUnder cut p - majorFloor) (take many (drop from (now (majors .entry))))) ⌝ }
 {
     let mut total = 0;

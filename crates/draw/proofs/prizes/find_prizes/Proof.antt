@@ -1,47 +1,72 @@
--- `draw::prizes::find_prizes` meets its contract: the first pass finds the sum of the major prizes and pays them uncut; past the limit the rounds
--- of the cut pay them.
+-- `draw::prizes::find_prizes` meets its contract: 250 major prizes or more are paid what is sure; fewer stand in the table, whose cut pays what the
+-- rule pays, and are raised to that.
 use native.Mathlib.Omega.{arith}
-use Rattle.draw.specs.Passing.{liveIn}
-use Rattle.draw.proofs.PassLaws.{all-majors, uncut-paid}
-use Rattle.draw.proofs.PassSteps.{reached-checked, first-ready, paid-out-prized}
+use Rattle.draw.specs.Passing.{SoldAll, Cutting, prizesBelow}
+use Rattle.draw.proofs.PassSteps.{reached-sold, found-count, many-paid, found-listed, found-cutting, raised-prized}
 use Rattle.draw.proofs.prizes.find_prizes.Statement.{statement}
 use Rattle.draw.proofs.prizes.find_prizes.Tie as tie
 
+abbrev startOf : tie.After-find-all → tie.Start
+startOf c = c .before .before .before .before .before
+
+-- the live tickets were sold
+sold : (start : tie.Start) → SoldAll (start .args .rows .now) (start .args .marks .now) (start .args .house .live)
+sold start = reached-sold (start .args .house) (start .args .rows .now) (start .args .marks .now) (start .pre)
+
 find-all-requires : tie.Need-find-all-requires
-find-all-requires c κs =
-    let start = c .before .before .before in
-    let args = start .args in
-    reached-checked (args .house) (args .rows .now) (args .marks .now) (start .pre)
+find-all-requires c κs = sold (c .before .before .before .before)
 
 returns : tie.Need-returns
 returns c =
     let found = c .before in
-    let args = found .before .before .before .before .args in
-    let house = args .house in
-    paid-out-prized house (args .rows .now) (args .marks .now) (args .draw) (found .find-all .ensures)
-    (uncut-paid (house .game) (args .draw) (liveIn (args .rows .now) (args .marks .now) (house .live)) (found .find-all .ensures) (omega (arith, c .if1 .taken)))
-
-cut-rounds-requires : tie.Need-cut-rounds-requires
-cut-rounds-requires c κs =
-    let past = c .before .before in
-    let found = past .before in
-    let start = found .before .before .before .before in
+    let start = startOf found in
     let args = start .args in
-    let house = args .house in (
-      reached-checked house (args .rows .now) (args .marks .now) (start .pre),
-      record {
-        total = all-majors (house .game) (args .draw) (liveIn (args .rows .now) (args .marks .now) (house .live)) (found .find-all .ensures);
-        past = omega (arith, past .if1 .left);
-        fits = found .find-all .ensures .fits;
-      },
-      first-ready (args .rows .now) (args .marks .now) (house .live) (house .game) (args .draw) (found .find-all .ensures),
-    )
+    raised-prized (args .house) (args .rows .now) (args .marks .now) (args .draw) (sold start) (found .find-all .ensures)
+    (many-paid (args .house) (args .rows .now) (args .marks .now) (args .draw) (sold start) (found .find-all .ensures) (c .if1 .taken))
+
+cut-of-requires : tie.Need-cut-of-requires
+cut-of-requires c κs =
+    let few = c .before in
+    let found = few .before in
+    let start = startOf found in
+    let args = start .args in
+    found-listed (args .house) (args .rows .now) (args .marks .now) (args .draw) (sold start) (found .find-all .ensures) (few .if1 .left)
+
+-- the tables and the state of the cut
+cutting : (c : tie.After-cut-of)
+    → Cutting (prizesBelow (startOf (c .before .before .before) .args .rows .now) (startOf (c .before .before .before) .args .marks .now) (startOf (c .before .before .before) .args .house .game) (startOf (c .before .before .before) .args .draw) (startOf (c .before .before .before) .args .house .live))
+    (c .before .before .before .find-all .last .1 .1 .1 .1 .1 .0) (c .before .before .before .find-all .last .1 .1 .1 .1 .1 .1 .1 .0) (c .before .before .before .find-all .last .1 .1 .1 .1 .1 .1 .1 .1 .0) (c .cut-of .result)
+cutting c =
+    let few = c .before .before in
+    let found = few .before in
+    let start = startOf found in
+    let args = start .args in
+    found-cutting (args .house) (args .rows .now) (args .marks .now) (args .draw) (sold start) (found .find-all .ensures) (few .if1 .left) (c .cut-of .ensures)
+
+raise-all-requires : tie.Need-raise-all-requires
+raise-all-requires c κs =
+    let cut = c .before .before .before in
+    let found = cut .before .before .before in
+    let start = startOf found in
+    let args = start .args in
+    record {
+      prizes = prizesBelow (args .rows .now) (args .marks .now) (args .house .game) (args .draw) (args .house .live);
+      count = found-count (args .house) (args .rows .now) (args .marks .now) (args .draw) (sold start) (found .find-all .ensures);
+      cutting = cutting cut;
+    }
 
 returns-2 : tie.Need-returns-2
 returns-2 c =
-    let found = c .before .before .before .before in
-    let args = found .before .before .before .before .args in
-    paid-out-prized (args .house) (args .rows .now) (args .marks .now) (args .draw) (found .find-all .ensures) (c .cut-rounds .ensures)
+    let cut = c .before .before .before .before in
+    let found = cut .before .before .before in
+    let start = startOf found in
+    let args = start .args in
+    raised-prized (args .house) (args .rows .now) (args .marks .now) (args .draw) (sold start) (found .find-all .ensures)
+    (c .raise-all .ensures
+    (prizesBelow (args .rows .now) (args .marks .now) (args .house .game) (args .draw) (args .house .live))
+    (found-count (args .house) (args .rows .now) (args .marks .now) (args .draw) (sold start) (found .find-all .ensures))
+    (cutting cut))
 
 pub find-prizes-spec : {M : Type 1} → statement M
-find-prizes-spec = tie.close (tie.spec find-all-requires returns cut-rounds-requires returns-2)
+find-prizes-spec =
+    tie.close (tie.spec find-all-requires returns cut-of-requires raise-all-requires returns-2)

@@ -1,25 +1,32 @@
--- `draw::prizes::find_ticket` meets its contract: the row says whether the ticket runs, and its words fit the terms.
+-- `draw::prizes::find_ticket` meets its contract: the row says whether the ticket runs; its words fit the terms, and its word of sizes is that of
+-- its marks.
 use mathlib.Core.Path.{_≡_, sym, ap, ap₂, _∙_, subst}
+use mathlib.Core.List.{List}
+use Prim.Native.Nat.{ℕ}
+use native.Mathlib.Omega.{arith}
 use borrow.Author.Needs.{needs}
 use borrow.Author.Tests.{not-true, not-false}
-use Rattle.rules.specs.Checks.{operandCode}
-use Rattle.rules.specs.Bounds.{Sound}
-use Rattle.rules.specs.Passes.{foundOf}
+use Rattle.rules.specs.Bounds.{Sound, Grouping}
+use Rattle.rules.specs.Found.{FoundWith}
+use Rattle.rules.specs.Ways.{sizes, hits}
+use Rattle.rules.specs.declared.terms.Terms.{Terms}
+use Rattle.house.specs.Tickets.{termsOf}
 use Rattle.house.specs.View.{marksAt, ticketFrom}
-use Rattle.draw.specs.Settling.{foundIn}
 use Rattle.house.proofs.Bounded.{terms-sound}
-use Rattle.draw.proofs.PassSteps.{row-narrow, found-runs, found-rests}
+use Rattle.draw.specs.Passing.{Sold, FoundAt}
+use Rattle.house.specs.declared.rows.Row.{Row}
+use Rattle.draw.proofs.PassSteps.{row-narrow, row-grouping, row-sizes, ticket-rests, ticket-runs}
 use Rattle.draw.proofs.prizes.find_ticket.Statement.{statement}
 use Rattle.draw.proofs.prizes.find_ticket.Tie as tie
 
--- the row that was read is the ticket's
-row-checked : (c : tie.After-read-row) → operandCode (ticketFrom (c .read-row .result) (marksAt (c .before .args .marks .now) (c .before .args .i)) .operands) ≡ 0
-row-checked c =
-    let args = c .before .args in
-    subst (λ w. operandCode (ticketFrom w (marksAt (args .marks .now) (args .i)) .operands) ≡ 0) (sym (c .read-row .ensures)) (c .before .pre .checked)
-
 read-row-requires : tie.Need-read-row-requires
-read-row-requires c κs = search needs
+read-row-requires c κs = record { within = c .pre .0 .place }
+
+-- the row that was read is the ticket's
+row-sold : (c : tie.After-read-row) → Sold (ticketFrom (c .read-row .result) (marksAt (c .before .args .marks .now) (c .before .args .i)))
+row-sold c =
+    let args = c .before .args in
+    subst (λ (w : Row). Sold (ticketFrom w (marksAt (args .marks .now) (args .i)))) (sym (c .read-row .ensures)) (c .before .pre .0 .sold)
 
 is-running-requires : tie.Need-is-running-requires
 is-running-requires c κs = search needs
@@ -29,39 +36,53 @@ returns c =
     let read = c .before .before in
     let args = read .before .args in
     let own = marksAt (args .marks .now) (args .i) in
-    found-rests (read .read-row .result) own (args .game) (args .draw) (sym (c .before .is-running .ensures) ∙ not-true _ (c .if1 .taken))
-    ∙ ap (λ w. foundIn (args .game) (args .draw) (ticketFrom w own)) (read .read-row .ensures)
+    subst (λ (w : Row). FoundAt (args .game) (args .draw) (ticketFrom w own) (args .before) (args .majors .now) (record { sure = 0; full = 0; majors = args .before }) (args .majors .now))
+    (read .read-row .ensures)
+    (ticket-rests (read .read-row .result) own (args .game) (args .draw) (args .before) (args .majors .now)
+    (sym (c .before .is-running .ensures) ∙ not-true _ (c .if1 .taken)))
 
 known-marks-requires : tie.Need-known-marks-requires
 known-marks-requires c κs = search needs
 
+ticket-groups-requires : tie.Need-ticket-groups-requires
+ticket-groups-requires c κs =
+    let known = c .before in
+    let read = known .before .before .before in
+    let own = marksAt (read .before .args .marks .now) (read .before .args .i) in (
+      record { place = read .before .pre .0 .place; own = omega (arith, known .known-marks .ensures, read .before .pre .0 .place) },
+      row-grouping (read .read-row .result) own (row-sold read .checked),
+    )
+
 row-terms-requires : tie.Need-row-terms-requires
 row-terms-requires c κs =
-    let read = c .before .before .before in
-    row-narrow (read .read-row .result) _ (row-checked read)
-
-ticket-groups-requires : tie.Need-ticket-groups-requires
-ticket-groups-requires c κs = search needs
+    let read = c .before .before .before .before .before in
+    let own = marksAt (read .before .args .marks .now) (read .before .args .i) in
+    row-narrow (read .read-row .result) own (row-sold read .checked)
 
 ticket-prizes-requires : tie.Need-ticket-prizes-requires
 ticket-prizes-requires c κs =
-    let terms = c .before .before .before .before in
-    let read = terms .before .before .before .before in
-    let own = marksAt (read .before .args .marks .now) (read .before .args .i) in
-    subst Sound (sym (terms .row-terms .ensures)) (terms-sound (ticketFrom (read .read-row .result) own .operands) (row-checked read))
+    let terms = c .before .before in
+    let groups = terms .before in
+    let read = groups .before .before .before .before .before in
+    let own = marksAt (read .before .args .marks .now) (read .before .args .i) in (
+      subst Sound (sym (terms .row-terms .ensures)) (terms-sound (ticketFrom (read .read-row .result) own .operands) (row-sold read .checked)),
+      groups .ticket-groups .ensures .groups,
+      read .before .pre .1,
+    )
 
 returns-2 : tie.Need-returns-2
 returns-2 c =
-    let groups = c .before .before .before in
-    let terms = groups .before .before in
-    let runs = terms .before .before in
+    let terms = c .before .before .before in
+    let groups = terms .before in
+    let runs = groups .before .before .before in
     let read = runs .before .before in
     let args = read .before .args in
+    let row = read .read-row .result in
     let own = marksAt (args .marks .now) (args .i) in
-    c .ticket-prizes .ensures
-    ∙ ap₂ (λ t g. foundOf t (g .sizes) (g .hits)) (terms .row-terms .ensures) (groups .ticket-groups .ensures)
-    ∙ found-runs (read .read-row .result) own (args .game) (args .draw) (sym (runs .before .is-running .ensures) ∙ not-false _ (runs .if1 .left))
-    ∙ ap (λ w. foundIn (args .game) (args .draw) (ticketFrom w own)) (read .read-row .ensures)
+    subst (λ (w : Row). FoundAt (args .game) (args .draw) (ticketFrom w own) (args .before) (args .majors .now) (c .ticket-prizes .result) (c .ticket-prizes .last .1 .1 .1 .0))
+    (read .read-row .ensures)
+    (ticket-runs row own (args .game) (args .draw) (args .before) (args .majors .now) (sym (runs .before .is-running .ensures) ∙ not-false _ (runs .if1 .left))
+    (row-sold read) (terms .row-terms .ensures) (groups .ticket-groups .ensures) (c .ticket-prizes .ensures))
 
 pub find-ticket-spec : {M : Type 1} → statement M
 find-ticket-spec =
@@ -71,7 +92,7 @@ find-ticket-spec =
     is-running-requires
     returns
     known-marks-requires
-    row-terms-requires
     ticket-groups-requires
+    row-terms-requires
     ticket-prizes-requires
     returns-2)

@@ -1,11 +1,12 @@
 -- `draw::prizes::ticket_groups` meets its contract: the part of the marks that it lends is the ticket's own.
 use Prim.Native.Nat.{ℕ, _+_, _-_, _*_}
-use mathlib.Core.Path.{_≡_, ap, _∙_}
+use mathlib.Core.Path.{_≡_, sym, ap, subst}
 use mathlib.Core.List.{List}
 use lib.ListN.{take, drop}
 use native.Mathlib.Omega.{arith}
 use borrow.Author.Needs.{needs}
-use Rattle.rules.specs.Ways.{sizes, hits}
+use Rattle.rules.specs.Bounds.{Grouping}
+use Rattle.rules.specs.Found.{GroupsOf}
 use Rattle.house.specs.View.{marksAt}
 use Rattle.draw.proofs.prizes.ticket_groups.Statement.{statement}
 use Rattle.draw.proofs.prizes.ticket_groups.Tie as tie
@@ -32,31 +33,16 @@ part-own-start c = search needs
 part-own-end : tie.Need-part-own-end
 part-own-end c = search needs
 
-group-sizes-requires : tie.Need-group-sizes-requires
-group-sizes-requires c κs = search needs
-
-group-hits-requires : tie.Need-group-hits-requires
-group-hits-requires c κs = search needs
+group-table-requires : tie.Need-group-table-requires
+group-table-requires c κs =
+    let start = c .before .before in
+    subst Grouping (sym (own-part (start .args .marks .now) (start .args .i))) (start .pre .1)
 
 returns : tie.Need-returns
 returns c =
-    let args = c .before .before .before .before .args in
-    let own : take (args .i * 80 + 80 - args .i * 80) (drop (args .i * 80) (args .marks .now)) ≡ marksAt (args .marks .now) (args .i) =
-    own-part (args .marks .now) (args .i) in
-    λ i. record {
-      sizes = (c .before .group-sizes .ensures ∙ ap sizes own) i;
-      hits = (c .group-hits .ensures ∙ ap (hits (args .draw)) own) i;
-    }
+    let args = c .before .before .before .args in
+    subst (λ (l : List ℕ). GroupsOf (args .word) (args .draw) l (c .group-table .result)) (own-part (args .marks .now) (args .i)) (c .group-table .ensures)
 
 pub ticket-groups-spec : {M : Type 1} → statement M
 ticket-groups-spec =
-    tie.close
-    (tie.spec
-    mul-from
-    add-end
-    sub-own
-    part-own-start
-    part-own-end
-    group-sizes-requires
-    group-hits-requires
-    returns)
+    tie.close (tie.spec mul-from add-end sub-own part-own-start part-own-end group-table-requires returns)
