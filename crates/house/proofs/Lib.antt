@@ -23,4 +23,5 @@ pub mod RisingNumbers
 pub mod ReachedHouses
 pub mod ViewLaws
 pub mod CallsBalanced
+pub mod DifferentBalls
 pub mod Examples

@@ -5,6 +5,7 @@ pub mod Till
 pub mod Sheet
 pub mod Claims
 pub mod Balance
+pub mod Draws
 pub mod View
 pub mod Parts
 pub mod Calls
