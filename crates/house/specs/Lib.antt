@@ -3,9 +3,9 @@ pub mod Model
 pub mod Commands
 pub mod Till
 pub mod Sheet
+pub mod Draws
 pub mod Claims
 pub mod Balance
-pub mod Draws
 pub mod View
 pub mod Parts
 pub mod Calls
