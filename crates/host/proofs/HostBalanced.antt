@@ -4,7 +4,7 @@ use Prim.Native.Nat.{ℕ, _+_}
 use mathlib.Core.Path.{_≡_, refl, sym, ap, ap₂, subst, _∙_}
 use mathlib.Core.List.{List, [], _++_}
 use lib.ListN.{length}
-use Rattle.house.specs.Model.{Model, fresh}
+use Rattle.house.specs.Model.{fresh}
 use Rattle.house.specs.Commands.{Command}
 use Rattle.house.specs.Till.{tillOf}
 use Rattle.house.specs.Balance.{run, Reached}

@@ -15,13 +15,13 @@ use Rattle.rules.specs.Ways.{markOf, sizeOf, hitsOf}
 use Rattle.rules.proofs.KeepLaws.{keep-append, length-keep-le}
 use Rattle.house.specs.Model.{Model, fresh}
 use Rattle.house.specs.Commands.{Command, open′, sell, cancel, ball, claim, expire, transfer, codeOf, act, step, ballsWith, settles, opened, sold, cancelled, gameSettled, ballEntered, claimed, expired, transferred}
-use Rattle.house.specs.Balance.{State, next, runFrom, run, Reached}
+use Rattle.house.specs.Balance.{State, next, runFrom, Reached}
 use Rattle.house.specs.Draws.{Different, DifferentBalls, numbersOf, drawnOf, HitsDrawn}
 use Rattle.house.proofs.Ledger.{All}
 use Rattle.house.proofs.Refusals.{or-false, and-true, operands-accepted, ball-accepted}
 use Rattle.house.proofs.MoneyLaws.{all-from, keep-map, keep-keep}
 use Rattle.house.proofs.RowLists.{length-table, getD-table, equal-or-not}
-use Rattle.house.proofs.Reliance.{refused-unchanged, accepted-done}
+use Rattle.house.proofs.OneCommand.{refused-unchanged, accepted-done}
 use Rattle.house.proofs.ReachedHouses.{reached-sure}
 
 -- ---- the balls of every reached house

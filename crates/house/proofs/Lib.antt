@@ -16,7 +16,7 @@ pub mod Won
 pub mod Seats
 pub mod SomeWay
 pub mod Bounded
-pub mod Reliance
+pub mod OneCommand
 pub mod Theorem
 pub mod RowLists
 pub mod RowLaws
@@ -24,5 +24,6 @@ pub mod RisingNumbers
 pub mod ReachedHouses
 pub mod ViewLaws
 pub mod CallsBalanced
+pub mod Reliance
 pub mod DifferentBalls
 pub mod Examples

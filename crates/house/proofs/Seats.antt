@@ -8,7 +8,7 @@ use mathlib.Core.Logic.{_⊎_, inl, inr, ⊎-elim}
 use mathlib.Core.List.{List, [], _∷_, map, map-map}
 use lib.Dec.{ltb, leb, eqb}
 use lib.ListN.{length}
-use borrow.Author.Tests.{le-leb, lt-leb, lt-ltb, le-ltb, leb-true, leb-false, ltb-false, eq-eqb, ne-eqb, eqb-true}
+use borrow.Author.Tests.{le-leb, lt-leb, lt-ltb, le-ltb, leb-true, ltb-false, eq-eqb, ne-eqb, eqb-true}
 use Rattle.rules.specs.Lists.{keep, any, member}
 use Rattle.rules.proofs.KeepLaws.{ltb-same}
 use Rattle.house.specs.Tickets.{Ticket, runsIn}
@@ -17,7 +17,7 @@ use Rattle.house.specs.Commands.{Command, open′, sell, cancel, ball, c
 use Rattle.house.specs.Sheet.{Sheet, gamesFrom, playing}
 use Rattle.house.specs.Draws.{Different}
 use Rattle.house.specs.Claims.{Log, sheetOf, accepted, isSell, gameOf, Span, spanOf, spanAfter, gamesOf, Seated}
-use Rattle.house.proofs.Ledger.{All, Orderly, houseOf, lineOf, sheetFor}
+use Rattle.house.proofs.Ledger.{Orderly, houseOf, lineOf}
 use Rattle.house.proofs.MoneyLaws.{all-from, keep-map, keep-same}
 use Rattle.house.proofs.Refusals.{cancel-accepted}
 use Rattle.house.proofs.LiveTickets.{running-live}

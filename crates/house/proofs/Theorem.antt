@@ -23,7 +23,7 @@ use Rattle.house.proofs.LogLaws.{logged}
 use Rattle.house.proofs.Won.{Told, told-fresh, told-refused, told-after, claimed-once, claim-pays}
 use Rattle.house.proofs.Seats.{Unsold, unsold-fresh, unsold-refused, unsold-after, house-seated, sheet-seated}
 use Rattle.house.proofs.Bounded.{Bounded, bounded-fresh, bounded-after}
-use Rattle.house.proofs.Reliance.{refused-unchanged, accepted-done}
+use Rattle.house.proofs.OneCommand.{refused-unchanged, accepted-done, accepted-code}
 
 -- what holds of a house and the log of its commands
 pub record Booked (h : Model) (log : Log) : Type 0 where
@@ -123,13 +123,7 @@ booked cs = booked-from (record { house = fresh; log = [] }) booked-fresh cs
 -- what an accepted command answers in a booked house
 module _ (h : Model) (log : Log) (c : Command) (b : Booked h log) (accepted : step h c .answer .code ≡ 0) where
   code-there : codeOf h c ≡ 0
-  code-there = go (eqb (codeOf h c) 0) refl
-    where
-      go : (t : Bool) → eqb (codeOf h c) 0 ≡ t → codeOf h c ≡ 0
-      go true e = eqb-true (codeOf h c) 0 e
-      go false e =
-          let refused : codeOf h c ≡ 0 → ⊥ = eqb-false (codeOf h c) 0 e in
-          sym (ap (λ (a : Answer). a .code) (refused-unchanged h c refused .1)) ∙ accepted
+  code-there = accepted-code h c accepted
 
   answer-there : step h c .answer ≡ reply (houseOf (b .ledger)) c
   answer-there = accepted-done h c code-there .1 ∙ ap (λ m. reply m c) (b .house)

@@ -181,7 +181,7 @@ pub claimed-once : (m : Model) (log : Log) → Told m log → (n : ℕ) → acce
 claimed-once m log told = told .once
 
 -- of the ticket that a claim is accepted for: everything it won is due, and no claim of it was accepted before
-claim-due : (m : Model) (log : Log) (n : ℕ)
+pub claim-due : (m : Model) (log : Log) (n : ℕ)
     → Told m log
     → codeOf (houseOf m) (claim n) ≡ 0
     → (ticketAt n (houseOf m .live) .due ≡ wonBy n log) × (accepted (isClaimOf n) log ≡ 0)

@@ -10,7 +10,7 @@ use lib.Seq.{drop-cons, drop-drop, drop-at, take-at, take-nil, take-take, getD-t
 use Rattle.house.specs.declared.answer.Answer.{Answer}
 use Rattle.roll.specs.Bytes.{numberFrom, numberOf, bytesOf}
 use Rattle.roll.specs.Decode.{recordOf}
-use Rattle.roll.specs.Balance.{Entry, entryFrom}
+use Rattle.roll.specs.Balance.{entryFrom}
 use Rattle.roll.specs.Orders.{saleIn}
 
 -- one digit more, to the base 256
