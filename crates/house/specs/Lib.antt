@@ -1,3 +1,5 @@
+pub mod Command
+pub mod Figures
 pub mod Tickets
 pub mod Model
 pub mod Commands
