@@ -19,7 +19,7 @@ use Rattle.roll.specs.declared.reader.Report.{Report}
 
 -- the calls so far: the commands answered and what the books were given for them, in order, with the house and the buffers that are left
 pub data HostCalls : List Command → List Entry → House → List ℕ → List ℕ → Type 0 where
-  begun : {h : House} {words marks : List ℕ} → ((rows tickets : List ℕ) → view h rows tickets ≡ fresh) → HostCalls [] [] h words marks
+  begun : {h : House} {words marks : List ℕ} → ((these others : List ℕ) → view h these others ≡ fresh) → HostCalls [] [] h words marks
   called :
       {cs : List Command} {es : List Entry} {h : House} {words marks roll book : List ℕ} {r : Report} {words′ marks′ written : List ℕ}
       → HostCalls cs es h words marks
@@ -36,7 +36,7 @@ pub record HostBalance (cs : List Command) (es : List Entry) (h : House) (words 
   -- the till that wulipday_till shows is the sheet's
   pub shown :
       (t : Till)
-      → ((tickets : List ℕ) → t ≡ shownTill (tillOf (view h words tickets)))
+      → ((others : List ℕ) → t ≡ shownTill (tillOf (view h words others)))
       → t ≡ shownTill (sheetOf (run cs .log) .figures)
   -- and every function may be called again
   pub reached : Reached (view h words marks)

@@ -22,6 +22,7 @@ use Rattle.house.proofs.LiveTickets.{next-game-least}
 use Rattle.house.proofs.Numbered.{found}
 use Rattle.house.proofs.Won.{TicketTold, claim-due}
 use Rattle.house.proofs.Theorem.{Booked, booked, reached-booked, till-balances}
+-- the laws of one command, which other crates cite from here
 pub use Rattle.house.proofs.OneCommand.{refused-unchanged, accepted-done, accepted-code, twentieth-settles, earlier-waits}
 
 -- ---- "Writers sell straight, way and jackpot tickets, and rely on the charge."
@@ -183,7 +184,7 @@ jackpot-board m r =
 pub count-room : (cs : List Command) → Balanced (tillOf (run cs .house)) × (tillOf (run cs .house) ≡ sheetOf (run cs .log) .figures)
 count-room cs = (till-balances cs .balance, till-balances cs .figures)
 
--- ---- "What they fear: a ticket for games 93 to 97 that is settled through 98 takes a prize it never bought"
+-- ---- "What they fear: a ticket for games 93 to 97 that is settled through 98 takes a prize it never bought [..]"
 
 -- a number whose games, told from the commands and their codes, do not have the current one is not among those that its twentieth ball settles
 pub never-bought :

@@ -114,9 +114,9 @@ abbrev pub gamesOf : Span → List ℕ
 gamesOf s = gamesFrom (s .first) (s .stop - s .first)
 
 -- who sits in the current game: a number plays just where its span has the game, and no number plays twice
-pub record Seated (log : Log) (playing : List ℕ) : Type 0 where
-  pub exactly : (n : ℕ) → member n playing ≡ member (gameOf log) (gamesOf (spanOf n log))
-  pub once : Different playing
+pub record Seated (log : Log) (players : List ℕ) : Type 0 where
+  pub exactly : (n : ℕ) → member n players ≡ member (gameOf log) (gamesOf (spanOf n log))
+  pub once : Different players
 
 -- everything that a ticket's drawn games won, of those that it was sold for and had not cancelled
 unfoldable pub wonBy : ℕ → Log → ℕ
