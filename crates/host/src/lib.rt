@@ -18,7 +18,6 @@ ghost use Rattle.house.specs.Till.{tillOf};
 ghost use Rattle.house.specs.View.{view};
 ghost use Rattle.commands.specs.Listing.{Listing};
 ghost use Rattle.commands.specs.Shown.{shownTill, poolsOf};
-ghost use Rattle.roll.specs.Reading.{readRoll};
 ghost use Rattle.roll.specs.Orders.{Reported};
 
 // A house in which nothing has happened, whatever the rows and the marks hold.
@@ -39,7 +38,7 @@ pub extern "C" fn wulipday_roll(
     book: &mut [u8],
 ) -> Report
     requires { ⌜ Reached (view house (now rows) (now marks)) ⌝ }
-    ensures { λ r. ⌜ Reported (readRoll (view house (now (rows .entry)) (now (marks .entry))) (now (roll .entry)) (now (book .entry))) (view (r .house) (now (rows .exit)) (now (marks .exit))) (r .stop) (r .read) (r .answers) (now (book .exit)) ⌝ }
+    ensures { λ r. ⌜ Reported house (now (rows .entry)) (now (marks .entry)) (now (roll .entry)) (now (book .entry)) r (now (rows .exit)) (now (marks .exit)) (now (book .exit)) ⌝ }
 {
     read_roll(house, rows, marks, roll, book)
 }
@@ -55,7 +54,7 @@ pub extern "C" fn wulipday_command(
     answer: &mut [u8; 14],
 ) -> Report
     requires { ⌜ Reached (view house (now rows) (now marks)) ⌝ }
-    ensures { λ r. ⌜ Reported (readRoll (view house (now (rows .entry)) (now (marks .entry))) (now (command .entry)) (now (answer .entry))) (view (r .house) (now (rows .exit)) (now (marks .exit))) (r .stop) (r .read) (r .answers) (now (answer .exit)) ⌝ }
+    ensures { λ r. ⌜ Reported house (now (rows .entry)) (now (marks .entry)) (now (command .entry)) (now (answer .entry)) r (now (rows .exit)) (now (marks .exit)) (now (answer .exit)) ⌝ }
 {
     read_roll(house, rows, marks, command, answer)
 }

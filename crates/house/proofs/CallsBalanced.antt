@@ -1,5 +1,5 @@
--- Demand 3 over the code's own contracts: the view of a host's house follows `step` call by call, so that it is the house of the list of
--- commands, and what `till-balances` says of the list holds of the host.
+-- Demand 3 over the code's own contracts: the view of a caller's house follows `step` call by call, so that it is the house of the list of
+-- commands, and what `till-balances` says of the list holds of the caller.
 use mathlib.Core.Path.{_≡_, sym, ap, _∙_}
 use mathlib.Core.List.{List, []}
 use Prim.Native.Nat.{ℕ}

@@ -13,9 +13,10 @@ pub mod LogLaws
 pub mod Numbered
 pub mod AwardLaws
 pub mod Won
+pub mod Seats
 pub mod SomeWay
 pub mod Bounded
-pub mod Reliance
+pub mod OneCommand
 pub mod Theorem
 pub mod RowLists
 pub mod RowLaws
@@ -23,4 +24,6 @@ pub mod RisingNumbers
 pub mod ReachedHouses
 pub mod ViewLaws
 pub mod CallsBalanced
+pub mod Reliance
+pub mod DifferentBalls
 pub mod Examples

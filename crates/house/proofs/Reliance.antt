@@ -1,67 +1,54 @@
--- What the people who call the house rely on, each shown of one command from the definitions of the commands and the bounds of a reached house.
-use Prim.Native.Nat.{ℕ, zero, suc, _+_, _-_, _*_, _≤_, _<_, min, max}
-use native.Mathlib.Nat.{mul-add}
+-- What the lounge's people rely on: a theorem for each, over every list of commands from a fresh house.
+use Prim.Native.Nat.{ℕ, _+_, _≤_, _<_, min, max}
 use native.Mathlib.Omega.{arith}
-use mathlib.Core.Path.{_≡_, refl, sym, ap, _∙_}
+use mathlib.Core.Path.{_≡_, refl, sym, ap, subst, subst⁻¹, _∙_}
 use mathlib.Core.Bool.{Bool, true, false, cond, _&&_}
-use mathlib.Core.List.{List, [], _∷_}
-use lib.Dec.{leb, eqb}
-use lib.ListN.{length, getD, length-append}
-use borrow.Author.Tests.{le-ltb, eq-eqb, ne-eqb}
-use Rattle.rules.specs.Lists.{keep}
+use mathlib.Core.List.{List, [], _∷_, _++_, map}
+use lib.Dec.{eqb}
+use lib.ListN.{length, length-append}
+use Rattle.rules.specs.Lists.{member}
+use Rattle.rules.specs.Checks.{Operands, chargeOf}
 use Rattle.rules.specs.Jackpots.{guaranteeOfSix, guaranteeOfEight}
-use Rattle.rules.specs.Price.{charge}
-use Rattle.house.specs.Tickets.{Ticket, runsIn, isFinished, paidStakes, heldFor, withDue, withStop, withFinishedDay}
+use Rattle.house.specs.Tickets.{Ticket, isFinished, isLive, paidStakes, heldFor, withStop, withFinishedDay}
 use Rattle.house.specs.Model.{Model, nextGame}
-use Rattle.house.specs.Commands.{Command, cancel, ball, replies, ticketAt, finishedOn, cancelStop, cancelledTicket, codeOf, refundOf, cancelled, ballsWith, settles, awarded, gameSettled, ballEntered, act, reply, step}
-use Rattle.house.proofs.Ledger.{All, houseOf}
+use Rattle.house.specs.Commands.{Command, sell, cancel, ball, claim, replies, ticketAt, stillLive, runningIn, finishedOn, cancelStop, cancelledTicket, codeOf, refundOf, sold, cancelled, gameSettled, ballEntered, claimed, act, reply, step}
+use Rattle.house.specs.Till.{tillOf}
+use Rattle.house.specs.Claims.{sheetOf, accepted, isClaimOf, gameOf, spanOf, gamesOf, wonBy}
+use Rattle.house.specs.Balance.{run, answerAfter, Reached, Balanced}
+use Rattle.house.proofs.Ledger.{houseOf}
 use Rattle.house.proofs.Refusals.{cancel-accepted}
-use Rattle.house.proofs.Bounded.{Bounded}
+use Rattle.house.proofs.SpanLaws.{stakes-split}
 use Rattle.house.proofs.LiveTickets.{next-game-least}
+use Rattle.house.proofs.Numbered.{found}
+use Rattle.house.proofs.Won.{TicketTold, claim-due}
+use Rattle.house.proofs.Theorem.{Booked, booked, reached-booked, till-balances}
+-- the laws of one command, which other crates cite from here
+pub use Rattle.house.proofs.OneCommand.{refused-unchanged, accepted-done, accepted-code, twentieth-settles, earlier-waits}
 
--- every caller: a refused command leaves the house exactly as it was, and answers its number, 0, 0
-pub refused-unchanged :
-    (m : Model) (c : Command)
-    → (codeOf m c ≡ 0 → ⊥)
-    → (step m c .house ≡ m) × (step m c .answer ≡ record { code = codeOf m c; number = 0; cents = 0 })
-unfolding step
-refused-unchanged m c refused = rw (ne-eqb (codeOf m c) 0 refused) (refl, refl)
+-- ---- "Writers sell straight, way and jackpot tickets, and rely on the charge."
 
--- and every other command is carried out
-pub accepted-done :
-    (m : Model) (c : Command)
-    → codeOf m c ≡ 0
-    → (step m c .house ≡ act m c) × (step m c .answer ≡ reply m c)
-unfolding step
-accepted-done m c e = rw (eq-eqb (codeOf m c) 0 e) (refl, refl)
+-- an accepted sale answers the next number and the charge, which is what is taken
+pub writers :
+    (cs : List Command) (o : Operands)
+    → answerAfter cs (sell o) .code ≡ 0
+    → (answerAfter cs (sell o) ≡ replies (run cs .house .issued + 1) (chargeOf o))
+    × (step (run cs .house) (sell o) .house .counters .taken ≡ run cs .house .counters .taken + chargeOf o)
+unfolding act reply sold
+writers cs o ok =
+    let done = accepted-done (run cs .house) (sell o) (accepted-code (run cs .house) (sell o) ok) in
+    (done .1, ap (λ h. h .counters .taken) (done .0))
 
--- ---- runners
+-- ---- "Runners bring cancellations, and rely on a refund of the unplayed games and no more."
 
--- of games in a row, the paid ones up to one of them and those from it on; free is the first that is not paid
-games-parted :
-    (from middle upto free : ℕ)
-    → from ≤ middle
-    → middle ≤ upto
-    → min upto free - min from free ≡ (min middle free - min from free) + (min upto free - min middle free)
-games-parted from middle upto free h k = omega arith
-
-stakes-parted :
-    (from middle upto : ℕ) (t : Ticket)
-    → from ≤ middle
-    → middle ≤ upto
-    → paidStakes from upto t ≡ paidStakes from middle t + paidStakes middle upto t
-unfolding paidStakes charge
-stakes-parted from middle upto t h k =
-    ap (λ n. t .operands .stake * t .ways * n) (games-parted from middle upto (t .free) h k)
-    ∙ mul-add (t .operands .stake * t .ways) _ _
-
--- runners: what an accepted Cancel of ticket number n, which is t, pays back
-pub record Refunded (m : Model) (n : ℕ) (t : Ticket) : Type 0 where
-  -- it takes off every game from the first on that is neither drawn nor being drawn, and the ticket has such games
-  pub undrawn : nextGame m ≤ cancelStop m t
+-- what an accepted Cancel of ticket number n, which is t, pays back after some commands
+pub record Refunded (cs : List Command) (m : Model) (n : ℕ) (t : Ticket) : Type 0 where
+  -- the games that the ticket has, told from the commands and their codes
+  pub span : spanOf n (run cs .log) ≡ record { first = t .first; stop = t .stop }
+  -- Cancel takes off every game of these that is neither drawn nor being drawn, and there are such games
+  pub undrawn : cancelStop m t ≡ max (t .first) (nextGame m)
   pub some : cancelStop m t < t .stop
   pub stops : cancelledTicket m t .stop ≡ cancelStop m t
-  -- it answers the paid stakes of these games
+  -- it answers the paid stakes of what it takes off
   pub answers : step m (cancel n) .answer ≡ replies n (paidStakes (cancelStop m t) (t .stop) t)
   pub refunded : step m (cancel n) .house .counters .refunded ≡ m .counters .refunded + paidStakes (cancelStop m t) (t .stop) t
   -- and no more than it takes from what is held for the ticket
@@ -99,16 +86,35 @@ module _ (m : Model) (t : Ticket) (some : cancelStop m t < t .stop) where
 
   held-parted : heldFor (m .game) t ≡ heldFor (m .game) (cancelledTicket m t) + paidStakes (cancelStop m t) (t .stop) t
   held-parted =
-      stakes-parted (max (t .first) (m .game)) (cancelStop m t) (t .stop) t (omega (arith, next-game-least m)) (omega arith)
-      ∙ ap (λ k. k + paidStakes (cancelStop m t) (t .stop) t) (sym held-left)
+      stakes-split (max (t .first) (m .game)) (cancelStop m t) (t .stop) t (omega (arith, next-game-least m))
+      ∙ ap (λ k. k + paidStakes (cancelStop m t) (t .stop) t) (ap (λ stop. paidStakes (max (t .first) (m .game)) stop t) cut-off ∙ sym held-left)
 
-pub refund-exact : (m : Model) (n : ℕ) → codeOf m (cancel n) ≡ 0 → Refunded m n (ticketAt n (m .live))
+-- the span of a live ticket is told by the log
+told-span : (m : Model) (cs : List Command) (n : ℕ) → Booked m (run cs .log) → codeOf m (cancel n) ≡ 0
+    → spanOf n (run cs .log) ≡ record { first = ticketAt n (m .live) .first; stop = ticketAt n (m .live) .stop }
+unfolding stillLive
+told-span m cs n b e =
+    let ledger = b .ledger in
+    let here = cancel-accepted (houseOf ledger) n (sym (ap (λ h. codeOf h (cancel n)) (b .house)) ∙ e) .here in
+    let told = found n (TicketTold (ledger .game) (run cs .log)) (isLive (ledger .game)) (ledger .live) (b .told .tickets) here in
+    subst⁻¹ (λ (h : Model). spanOf n (run cs .log) ≡ record { first = ticketAt n (h .live) .first; stop = ticketAt n (h .live) .stop }) (b .house)
+    (subst
+    (λ (k : ℕ). spanOf k (run cs .log) ≡ record { first = ticketAt n (houseOf ledger .live) .first; stop = ticketAt n (houseOf ledger .live) .stop })
+    (told .1) (told .0 .span))
+
+pub runners :
+    (cs : List Command) (n : ℕ)
+    → answerAfter cs (cancel n) .code ≡ 0
+    → Refunded cs (run cs .house) n (ticketAt n (run cs .house .live))
 unfolding act reply cancelled refundOf
-refund-exact m n e =
+runners cs n ok =
+    let m = run cs .house in
+    let e = accepted-code m (cancel n) ok in
     let some = cancel-accepted m n e .some in
     let done = accepted-done m (cancel n) e in
     record {
-      undrawn = omega arith;
+      span = told-span m cs n (booked cs) e;
+      undrawn = refl;
       some = some;
       stops = stops-there m (ticketAt n (m .live)) some;
       answers = done .1;
@@ -116,83 +122,75 @@ refund-exact m n e =
       held = held-parted m (ticketAt n (m .live)) some;
     }
 
--- ---- the fear: a ticket for games 93 to 97 that is settled through 98
+-- ---- "The draw hand enters each ball, and relies on the twentieth settling that game."
 
--- a ticket does not run in a game past its last
-pub past-idle : (game : ℕ) (t : Ticket) → t .stop ≤ game → runsIn game t ≡ false
-unfolding runsIn
-past-idle game t past = rw (le-ltb game (t .stop) past) (go (leb (t .first) game))
-  where
-    go : (b : Bool) → (b && false) ≡ false
-    go true = refl
-    go false = refl
+-- an accepted ball after some commands: the answer counts the balls in
+pub record Entered (m : Model) (b : ℕ) : Type 0 where
+  pub counted : step m (ball b) .answer .number ≡ length (m .balls) + 1
+  -- the twentieth settles the game: the next is current, with no balls
+  pub settled :
+      step m (ball b) .answer .number ≡ 20
+      → (step m (ball b) .house ≡ gameSettled b m) × (step m (ball b) .house .game ≡ m .game + 1) × (step m (ball b) .house .balls ≡ [])
+  -- any other is added to the balls of the game, and that is all
+  pub waits : (step m (ball b) .answer .number ≡ 20 → ⊥) → step m (ball b) .house ≡ ballEntered b m
 
--- whatever a game awards, a ticket that does not run in it is left as it was, what it is due and all else
-pub no-award-outside :
-    (game : ℕ) (awards : List ℕ) (ts : List Ticket) (i : ℕ) (none : Ticket)
-    → runsIn game (getD ts i none) ≡ false
-    → getD (awarded game awards ts) i none ≡ getD ts i none
-unfolding awarded
-no-award-outside game awards [] i none idle = refl
-no-award-outside game [] (t ∷ ts) zero none idle = refl
-no-award-outside game [] (t ∷ ts) (suc i) none idle = no-award-outside game [] ts i none idle
-no-award-outside game (a ∷ awards) (t ∷ ts) zero none idle = rw idle
-no-award-outside game (a ∷ awards) (t ∷ ts) (suc i) none idle =
-    go (runsIn game t) (no-award-outside game awards ts i none idle) (no-award-outside game (a ∷ awards) ts i none idle)
-  where
-    go :
-        (runs : Bool)
-        → getD (awarded game awards ts) i none ≡ getD ts i none
-        → getD (awarded game (a ∷ awards) ts) i none ≡ getD ts i none
-        → getD (cond runs (withDue t (t .due + a) ∷ awarded game awards ts) (t ∷ awarded game (a ∷ awards) ts)) (suc i) none
-        ≡ getD ts i none
-    go true first rest = first
-    go false first rest = rest
+pub draw-hand : (cs : List Command) (b : ℕ) → answerAfter cs (ball b) .code ≡ 0 → Entered (run cs .house) b
+unfolding reply
+draw-hand cs b ok =
+    let m = run cs .house in
+    let e = accepted-code m (ball b) ok in
+    let counted : step m (ball b) .answer .number ≡ length (m .balls) + 1 =
+    ap (λ a. a .number) (accepted-done m (ball b) e .1) ∙ length-append (m .balls) (b ∷ []) in
+    record {
+      counted = counted;
+      settled = λ last. twentieth-settles m b e (omega arith);
+      waits = λ early. earlier-waits m b e (λ nineteen. early (omega arith));
+    }
 
--- and it takes no part in the game's cut: the settlement is of tickets that run in it
-pub settled-run : (game : ℕ) (ts : List Ticket) → All (λ t. runsIn game t ≡ true) (keep (runsIn game) ts)
-unfolding keep
-settled-run game [] = tt
-settled-run game (t ∷ ts) = go (runsIn game t) refl (settled-run game ts)
-  where
-    go :
-        (runs : Bool)
-        → runsIn game t ≡ runs
-        → All (λ u. runsIn game u ≡ true) (keep (runsIn game) ts)
-        → All (λ u. runsIn game u ≡ true) (cond runs (t ∷ keep (runsIn game) ts) (keep (runsIn game) ts))
-    go true e rest = (e, rest)
-    go false e rest = rest
+-- ---- "Cashiers pay what a claim says, and rely on it being everything that ticket won."
 
--- ---- the jackpot board
+-- an accepted claim answers everything that the ticket's drawn games won, and no claim of it was accepted before
+pub cashiers :
+    (cs : List Command) (n : ℕ)
+    → answerAfter cs (claim n) .code ≡ 0
+    → (answerAfter cs (claim n) ≡ replies n (wonBy n (run cs .log)))
+    × (step (run cs .house) (claim n) .house .counters .paid ≡ run cs .house .counters .paid + wonBy n (run cs .log))
+    × (accepted (isClaimOf n) (run cs .log) ≡ 0)
+unfolding act reply claimed
+cashiers cs n ok =
+    let m = run cs .house in
+    let b = booked cs in
+    let e = accepted-code m (claim n) ok in
+    let done = accepted-done m (claim n) e in
+    let due = claim-due (b .ledger) (run cs .log) n (b .told) (sym (ap (λ h. codeOf h (claim n)) (b .house)) ∙ e) in
+    let won : ticketAt n (m .live) .due ≡ wonBy n (run cs .log) = ap (λ (h : Model). ticketAt n (h .live) .due) (b .house) ∙ due .0 in (
+      done .1 ∙ ap (replies n) won,
+      ap (λ h. h .counters .paid) (done .0) ∙ ap (λ k. m .counters .paid + k) won,
+      due .1,
+    )
+
+-- ---- "The jackpot board shows the pools, and relies on the seed standing under them."
 
 -- a primary never stands below its guarantee
-pub guarantee : (m : Model) → Bounded m → (guaranteeOfSix ≤ houseOf m .six .primary) × (guaranteeOfEight ≤ houseOf m .eight .primary)
-guarantee m b = (b .sixGuarantee, b .eightGuarantee)
+pub jackpot-board : (m : Model) → Reached m → (guaranteeOfSix ≤ m .six .primary) × (guaranteeOfEight ≤ m .eight .primary)
+jackpot-board m r =
+    let b = reached-booked m r .1 in
+    subst⁻¹ (λ (h : Model). (guaranteeOfSix ≤ h .six .primary) × (guaranteeOfEight ≤ h .eight .primary)) (b .house)
+    (b .bounded .sixGuarantee, b .bounded .eightGuarantee)
 
--- ---- the draw hand
+-- ---- "The count room reads the till."
 
--- the twentieth ball settles its game: the next is current, with no balls
-pub twentieth-settles :
-    (m : Model) (b : ℕ)
-    → codeOf m (ball b) ≡ 0
-    → length (m .balls) ≡ 19
-    → (step m (ball b) .house ≡ gameSettled b m)
-    × (step m (ball b) .house .game ≡ m .game + 1)
-    × (step m (ball b) .house .balls ≡ [])
-unfolding act gameSettled
-twentieth-settles m b e nineteen =
-    let last : settles b m ≡ true = eq-eqb (length (ballsWith b m)) 20 (omega (arith, length-append (m .balls) (b ∷ []))) in
-    let done : step m (ball b) .house ≡ gameSettled b m = accepted-done m (ball b) e .0 ∙ rw last in
-    (done, ap (λ h. h .game) done, ap (λ h. h .balls) done)
+-- it balances, and each figure is the count sheet's
+pub count-room : (cs : List Command) → Balanced (tillOf (run cs .house)) × (tillOf (run cs .house) ≡ sheetOf (run cs .log) .figures)
+count-room cs = (till-balances cs .balance, till-balances cs .figures)
 
--- any other leaves the game current, with one ball more
-pub earlier-waits :
-    (m : Model) (b : ℕ)
-    → codeOf m (ball b) ≡ 0
-    → (length (m .balls) ≡ 19 → ⊥)
-    → (step m (ball b) .house .game ≡ m .game) × (step m (ball b) .house .balls ≡ ballsWith b m)
-unfolding act ballEntered
-earlier-waits m b e fewer =
-    let early : settles b m ≡ false = ne-eqb (length (ballsWith b m)) 20 (omega (arith, length-append (m .balls) (b ∷ []))) in
-    let done : step m (ball b) .house ≡ ballEntered b m = accepted-done m (ball b) e .0 ∙ rw early in
-    (ap (λ h. h .game) done, ap (λ h. h .balls) done)
+-- ---- "What they fear: a ticket for games 93 to 97 that is settled through 98 takes a prize it never bought [..]"
+
+-- a number whose games, told from the commands and their codes, do not have the current one is not among those that its twentieth ball settles
+pub never-bought :
+    (cs : List Command) (b n : ℕ)
+    → answerAfter cs (ball b) .code ≡ 0
+    → answerAfter cs (ball b) .number ≡ 20
+    → member (gameOf (run cs .log)) (gamesOf (spanOf n (run cs .log))) ≡ false
+    → member n (map (λ t. t .number) (runningIn (run cs .house))) ≡ false
+never-bought cs b n ok last out = till-balances (cs ++ (ball b ∷ [])) .plays cs [] b refl ok last .0 .exactly n ∙ out

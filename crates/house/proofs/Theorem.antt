@@ -1,17 +1,17 @@
 -- Demand 3, proved: `till-balances`. Every state of a run has a ledger of all tickets ever sold, of which the house is the live part and the
 -- count sheet the lines; each command is followed from ledger to ledger, and what is claimed of the house and the sheet is read off.
-use mathlib.Core.Path.{_≡_, refl, sym, ap, subst, subst₂, _∙_}
+use mathlib.Core.Path.{_≡_, refl, sym, ap, subst, subst⁻¹, subst₂, _∙_}
 use Prim.Native.Nat.{ℕ}
 use mathlib.Core.Bool.{Bool, true, false}
-use mathlib.Core.List.{List, [], _∷_, _++_}
+use mathlib.Core.List.{List, [], _∷_, _++_, map}
 use lib.Dec.{eqb}
 use borrow.Author.Tests.{eqb-true, eqb-false}
 use Rattle.rules.specs.Lists.{keep}
 use Rattle.house.specs.Model.{Model, fresh}
-use Rattle.house.specs.Commands.{Command, open′, sell, cancel, ball, claim, expire, transfer, Answer, codeOf, act, reply, step, stillLive}
+use Rattle.house.specs.Commands.{Command, open′, sell, cancel, ball, claim, expire, transfer, Answer, codeOf, act, reply, step, stillLive, runningIn}
 use Rattle.house.specs.Till.{tillOf}
-use Rattle.house.specs.Sheet.{Sheet, feed, moved, sheetNumber, sheetCents}
-use Rattle.house.specs.Claims.{Log, sheetOf, wonBy}
+use Rattle.house.specs.Sheet.{Sheet, playing, feed, moved, sheetNumber, sheetCents}
+use Rattle.house.specs.Claims.{Log, sheetOf, Seated, wonBy}
 use Rattle.house.specs.Balance.{State, next, runFrom, run, Balanced, TillBalances, Reached}
 use Rattle.house.proofs.Ledger.{houseOf, ledgerAfter, sheetFor, Orderly}
 use Rattle.house.proofs.LiveTickets.{live-after, house-after}
@@ -21,8 +21,9 @@ use Rattle.house.proofs.SheetSteps.{sheet-after, balanced-after}
 use Rattle.house.proofs.SheetAnswers.{answers-agree, balanced-fresh}
 use Rattle.house.proofs.LogLaws.{logged}
 use Rattle.house.proofs.Won.{Told, told-fresh, told-refused, told-after, claimed-once, claim-pays}
+use Rattle.house.proofs.Seats.{Unsold, unsold-fresh, unsold-refused, unsold-after, house-seated, sheet-seated}
 use Rattle.house.proofs.Bounded.{Bounded, bounded-fresh, bounded-after}
-use Rattle.house.proofs.Reliance.{refused-unchanged, accepted-done}
+use Rattle.house.proofs.OneCommand.{refused-unchanged, accepted-done, accepted-code}
 
 -- what holds of a house and the log of its commands
 pub record Booked (h : Model) (log : Log) : Type 0 where
@@ -30,6 +31,7 @@ pub record Booked (h : Model) (log : Log) : Type 0 where
   pub house : h ≡ houseOf ledger
   pub orderly : Orderly ledger
   pub told : Told ledger log
+  pub unsold : Unsold log
   pub balanced : Balanced (tillOf ledger)
   pub bounded : Bounded ledger
 
@@ -41,6 +43,7 @@ booked-fresh =
       house = refl;
       orderly = orderly-fresh;
       told = told-fresh;
+      unsold = unsold-fresh;
       balanced = balanced-fresh;
       bounded = bounded-fresh;
     }
@@ -76,6 +79,7 @@ module _ (h : Model) (log : Log) (c : Command) (b : Booked h log) where
         house = ap (λ m. act m c) (b .house) ∙ house-after before c (b .orderly) there;
         orderly = orderly-after before c (b .orderly) there;
         told = told-after before log c (b .orderly) (b .told) there (fed accepted);
+        unsold = unsold-after before log c (b .told) there (b .unsold);
         balanced = balanced-after before c (b .orderly) there (b .balanced);
         bounded = bounded-after before c (b .orderly) (b .bounded) there (live-after before c (b .orderly) there);
       }
@@ -87,6 +91,7 @@ module _ (h : Model) (log : Log) (c : Command) (b : Booked h log) where
         house = b .house;
         orderly = b .orderly;
         told = told-refused before log c (codeOf h c) refused (b .told);
+        unsold = unsold-refused log c (codeOf h c) refused (b .unsold);
         balanced = b .balanced;
         bounded = b .bounded;
       }
@@ -118,13 +123,7 @@ booked cs = booked-from (record { house = fresh; log = [] }) booked-fresh cs
 -- what an accepted command answers in a booked house
 module _ (h : Model) (log : Log) (c : Command) (b : Booked h log) (accepted : step h c .answer .code ≡ 0) where
   code-there : codeOf h c ≡ 0
-  code-there = go (eqb (codeOf h c) 0) refl
-    where
-      go : (t : Bool) → eqb (codeOf h c) 0 ≡ t → codeOf h c ≡ 0
-      go true e = eqb-true (codeOf h c) 0 e
-      go false e =
-          let refused : codeOf h c ≡ 0 → ⊥ = eqb-false (codeOf h c) 0 e in
-          sym (ap (λ (a : Answer). a .code) (refused-unchanged h c refused .1)) ∙ accepted
+  code-there = accepted-code h c accepted
 
   answer-there : step h c .answer ≡ reply (houseOf (b .ledger)) c
   answer-there = accepted-done h c code-there .1 ∙ ap (λ m. reply m c) (b .house)
@@ -139,6 +138,14 @@ claim-in h log n b accepted =
     ap (λ (a : Answer). a .cents) (answer-there h log (claim n) b accepted)
     ∙ claim-pays (b .ledger) log n (b .told) (accepted-there h log (claim n) b (code-there h log (claim n) b accepted))
 
+-- who plays in the current game of a booked house
+seated-in : (h : Model) (log : Log) → Booked h log
+    → Seated log (map (λ t. t .number) (runningIn h)) × Seated log (map (λ l. l .number) (playing (sheetOf log)))
+seated-in h log b = (
+  subst⁻¹ (λ m. Seated log (map (λ t. t .number) (runningIn m))) (b .house) (house-seated (b .ledger) log (b .orderly) (b .told) (b .unsold)),
+  sheet-seated (b .ledger) log (b .orderly) (b .told) (b .unsold),
+)
+
 till-in : (h : Model) (log : Log) (b : Booked h log) → tillOf h ≡ tillOf (b .ledger)
 till-in h log b = ap tillOf (b .house) ∙ till-of-house (b .ledger)
 
@@ -151,6 +158,7 @@ till-balances cs =
       balance = subst Balanced (sym same) (b .balanced);
       figures = same ∙ sym (ap (λ (s : Sheet). s .figures) (b .told .sheet));
       answers = λ before after c split accepted. answers-sheet (run before .house) (run before .log) c (booked before) accepted;
+      plays = λ before after n split accepted last. seated-in (run before .house) (run before .log) (booked before);
       once = claimed-once (b .ledger) (run cs .log) (b .told);
       pays = λ before after n split accepted. claim-in (run before .house) (run before .log) n (booked before) accepted;
     }

@@ -16,7 +16,7 @@ use Rattle.house.specs.View.{ticketIn, ticketsOf, placeOf, RisingRows, v
 use Rattle.house.specs.Parts.{Carried}
 use Rattle.house.specs.declared.state.House.{House}
 use Rattle.house.proofs.Ledger.{withLive}
-use Rattle.house.proofs.Reliance.{refused-unchanged, accepted-done}
+use Rattle.house.proofs.OneCommand.{refused-unchanged, accepted-done}
 use Rattle.house.proofs.Theorem.{reply-code}
 use Rattle.house.proofs.ReachedHouses.{Sure}
 use Rattle.house.proofs.RisingNumbers.{rising-at}

@@ -181,7 +181,7 @@ pub claimed-once : (m : Model) (log : Log) → Told m log → (n : ℕ) → acce
 claimed-once m log told = told .once
 
 -- of the ticket that a claim is accepted for: everything it won is due, and no claim of it was accepted before
-claim-due : (m : Model) (log : Log) (n : ℕ)
+pub claim-due : (m : Model) (log : Log) (n : ℕ)
     → Told m log
     → codeOf (houseOf m) (claim n) ≡ 0
     → (ticketAt n (houseOf m .live) .due ≡ wonBy n log) × (accepted (isClaimOf n) log ≡ 0)
@@ -277,21 +277,17 @@ told-claim m log n orderly told accept sheet =
 -- ---- Sell
 
 -- the span of a number that is not the one sold
-sell-span-other : (log : Log) (o : Operands) (n : ℕ)
+pub sell-span-other : (log : Log) (o : Operands) (n : ℕ)
     → (accepted isSell log + 1 ≡ n → ⊥)
     → spanOf n (logged (sell o) 0 ∷ log) ≡ spanOf n log
 unfolding spanOf spanAfter
-sell-span-other log o n other =
-    ap (λ (b : Bool). cond b (record { first = nextOf log; stop = nextOf log + o .games }) (spanOf n log))
-    (ne-eqb (accepted isSell log + 1) n other)
+sell-span-other log o n other = rw (ne-eqb (accepted isSell log + 1) n other)
 
 sell-span : (log : Log) (o : Operands) (n : ℕ)
     → accepted isSell log + 1 ≡ n
     → spanOf n (logged (sell o) 0 ∷ log) ≡ record { first = nextOf log; stop = nextOf log + o .games }
 unfolding spanOf spanAfter
-sell-span log o n here =
-    ap (λ (b : Bool). cond b (record { first = nextOf log; stop = nextOf log + o .games }) (spanOf n log))
-    (eq-eqb (accepted isSell log + 1) n here)
+sell-span log o n here = rw (eq-eqb (accepted isSell log + 1) n here)
 
 -- with the same span, a number has won the same
 sell-won-other : (log : Log) (o : Operands) (n : ℕ)
@@ -361,7 +357,7 @@ told-sell m log o orderly told sheet =
 
 -- ---- Cancel
 
-cancel-span-other : (log : Log) (k n : ℕ) → (k ≡ n → ⊥) → spanOf n (logged (cancel k) 0 ∷ log) ≡ spanOf n log
+pub cancel-span-other : (log : Log) (k n : ℕ) → (k ≡ n → ⊥) → spanOf n (logged (cancel k) 0 ∷ log) ≡ spanOf n log
 unfolding spanOf spanAfter
 cancel-span-other log k n other =
     ap (λ (b : Bool). cond b (record { first = spanOf n log .first; stop = max (spanOf n log .first) (nextOf log) }) (spanOf n log))

@@ -2,12 +2,12 @@
 -- last one left." The statement; the proof is till-balances in proofs/Theorem.antt.
 use Prim.Native.Nat.{ℕ, _+_, _≤_}
 use mathlib.Core.Path.{_≡_}
-use mathlib.Core.List.{List, [], _∷_, _++_}
+use mathlib.Core.List.{List, [], _∷_, _++_, map}
 use Rattle.house.specs.Model.{Model, fresh}
-use Rattle.house.specs.Commands.{Command, claim, Answer, step}
+use Rattle.house.specs.Commands.{Command, ball, claim, Answer, runningIn, step}
 use Rattle.house.specs.Till.{Figures, tillOf}
-use Rattle.house.specs.Sheet.{sheetNumber, sheetCents}
-use Rattle.house.specs.Claims.{Log, sheetOf, accepted, isClaimOf, wonBy}
+use Rattle.house.specs.Sheet.{playing, sheetNumber, sheetCents}
+use Rattle.house.specs.Claims.{Log, sheetOf, accepted, isClaimOf, Seated, wonBy}
 
 -- a house after some commands, with the log of them
 pub record State : Type 0 where
@@ -51,6 +51,15 @@ pub record TillBalances (cs : List Command) : Type 0 where
       → answerAfter before c .code ≡ 0
       → (answerAfter before c .number ≡ sheetNumber (sheetOf (run before .log)) c)
       × (answerAfter before c .cents ≡ sheetCents (sheetOf (run before .log)) c)
+  -- "The twentieth ball settles each way of each live ticket that runs in that game": in the house and on the sheet, the tickets that play are exactly
+  -- those whose span, told from the commands and their codes, has the game
+  pub plays :
+      (before after : List Command) (b : ℕ)
+      → cs ≡ before ++ ball b ∷ after
+      → answerAfter before (ball b) .code ≡ 0
+      → answerAfter before (ball b) .number ≡ 20
+      → Seated (run before .log) (map (λ t. t .number) (runningIn (run before .house)))
+      × Seated (run before .log) (map (λ l. l .number) (playing (sheetOf (run before .log))))
   -- "Each ticket number has at most one accepted claim."
   pub once : (n : ℕ) → accepted (isClaimOf n) (run cs .log) ≤ 1
   -- "That claim pays exactly the prizes, as cut, and the jackpot shares of the drawn games the ticket was sold for and had not cancelled."

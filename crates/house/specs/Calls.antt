@@ -1,5 +1,5 @@
--- Demand 3 for whoever calls the parts: a host that starts from `House::fresh()` and calls only commands, each on the house and the buffers that the
--- last call left. A call is known by its contract alone.
+-- Demand 3 for code that calls the commands one by one: it starts from `House::fresh()`, and each call has the house and the buffers that the last
+-- one left. A call is known by its contract alone.
 use mathlib.Core.Path.{_≡_}
 use mathlib.Core.List.{List, [], _∷_, _++_}
 use Prim.Native.Nat.{ℕ}
@@ -21,7 +21,7 @@ pub data Calls : List Command → House → List ℕ → List ℕ → Type 0 whe
       → Carried h words marks c after words′ marks′ a
       → Calls (cs ++ (c ∷ [])) after words′ marks′
 
--- the host's house is that of its list of commands, over which the till balances, and its nine figures are the sheet's
+-- the caller's house is that of its list of commands, over which the till balances, and its nine figures are the sheet's
 pub record CallsBalance (cs : List Command) (h : House) (words marks : List ℕ) : Type 0 where
   pub house : view h words marks ≡ run cs .house
   pub till : TillBalances cs

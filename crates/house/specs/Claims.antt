@@ -2,12 +2,14 @@
 -- What a ticket has won, told from the list of commands and the code that each was answered with: Sell gives the span of games, Cancel
 -- shortens it, the twentieth accepted ball draws a game, and the rule book says what the game pays each ticket that runs in it.
 use Prim.Native.Nat.{ℕ, _+_, _-_, _/_, _%_, max}
+use mathlib.Core.Path.{_≡_}
 use mathlib.Core.Bool.{Bool, true, false, cond, _&&_}
 use mathlib.Core.List.{List, [], _∷_, map}
 use lib.Dec.{ltb, eqb}
 use lib.ListN.{length}
-use Rattle.rules.specs.Lists.{sum, keep}
-use Rattle.house.specs.Commands.{Command, open′, sell, cancel, ball, claim, expire, transfer}
+use Rattle.rules.specs.Lists.{sum, keep, member}
+use Rattle.house.specs.Command.{Command, open′, sell, cancel, ball, claim, expire, transfer}
+use Rattle.house.specs.Draws.{Different}
 use Rattle.house.specs.Sheet.{Sheet, Line, freshSheet, feed, playing, sheetSettlement, gamesFrom}
 
 -- a command and the code of its answer
@@ -110,6 +112,11 @@ awardIn n g (e ∷ log) = cond (eqb (e .code) 0) (awardAfter n g log (awardIn n 
 -- the games of a span
 abbrev pub gamesOf : Span → List ℕ
 gamesOf s = gamesFrom (s .first) (s .stop - s .first)
+
+-- who sits in the current game: a number plays just where its span has the game, and no number plays twice
+pub record Seated (log : Log) (players : List ℕ) : Type 0 where
+  pub exactly : (n : ℕ) → member n players ≡ member (gameOf log) (gamesOf (spanOf n log))
+  pub once : Different players
 
 -- everything that a ticket's drawn games won, of those that it was sold for and had not cancelled
 unfoldable pub wonBy : ℕ → Log → ℕ

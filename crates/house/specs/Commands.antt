@@ -12,17 +12,9 @@ use Rattle.rules.specs.Ways.{sizes, sizeWord}
 use Rattle.rules.specs.Settle.{Settled, settle, jackpotBy}
 use Rattle.rules.specs.declared.jackpot.Jackpot.{Jackpot}
 pub use Rattle.house.specs.declared.answer.Answer.{Answer}
+pub use Rattle.house.specs.Command.{Command, open′, sell, cancel, ball, claim, expire, transfer}
 use Rattle.house.specs.Tickets.{Ticket, termsOf, runsIn, isFinished, isLive, paidStakes, entryOf, kenoToGoBegun, withDue, withStop, withFinishedDay}
 use Rattle.house.specs.Model.{Model, Counters, ticketLimit, gameLimit, liveLimit, isDrawing, nextGame, withTickets, withTaken, withPaid, withRefunded, withUnclaimed, withTransferred}
-
-pub data Command : Type 0 where
-  open′ : ℕ → Command
-  sell : Operands → Command
-  cancel : ℕ → Command
-  ball : ℕ → Command
-  claim : ℕ → Command
-  expire : Command
-  transfer : ℕ → ℕ → Command
 
 -- ---- tickets by number
 

@@ -1,8 +1,11 @@
+pub mod Command
+pub mod Figures
 pub mod Tickets
 pub mod Model
 pub mod Commands
 pub mod Till
 pub mod Sheet
+pub mod Draws
 pub mod Claims
 pub mod Balance
 pub mod View

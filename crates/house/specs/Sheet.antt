@@ -1,7 +1,8 @@
 -- "The count sheet is fed each command with its operands and its answer's code, and nothing else from the house. It holds today, the game, its
 -- balls, the six pools, the two debts, the nine figures, and a line for each accepted Sell, numbered from 1. It starts as a fresh house does,
--- with seeds and pooled 1,350,000 and the other figures 0. On a code other than 0 nothing on it changes." It shares the rule book with the
--- house, the commands and the shape of an answer, and no record, check or money move.
+-- with seeds and pooled 1,350,000 and the other figures 0. On a code other than 0 nothing on it changes." With the house it shares the rule book
+-- (`rules`, with a sale's operands and the record of a jackpot's pools), the commands as they are given (Command) and the names of the nine
+-- figures (Figures), and no ticket, check or money move.
 use Prim.Native.Nat.{ℕ, zero, suc, _+_, _-_}
 use mathlib.Core.Bool.{Bool, cond, not, _&&_}
 use mathlib.Core.List.{List, [], _∷_, _++_, map}
@@ -14,8 +15,8 @@ use Rattle.rules.specs.Checks.{Operands, wayCount, chargeOf}
 use Rattle.rules.specs.Jackpots.{guaranteeOfSix, guaranteeOfEight, freshJackpot}
 use Rattle.rules.specs.Settle.{Entry, Settled, settle}
 use Rattle.rules.specs.declared.jackpot.Jackpot.{Jackpot}
-use Rattle.house.specs.Commands.{Command, open′, sell, cancel, ball, claim, expire, transfer}
-use Rattle.house.specs.Till.{Figures}
+use Rattle.house.specs.Command.{Command, open′, sell, cancel, ball, claim, expire, transfer}
+use Rattle.house.specs.Figures.{Figures}
 
 pub record Line : Type 0 where
   pub number : ℕ

@@ -1,4 +1,4 @@
--- One book of answers: they fit the book, and where it is full some of the roll has been read. A fresh house is reached.
+-- One book of answers: they fit the book, and where it is full some of the roll has been read.
 use Prim.Native.Nat.{ℕ, zero, suc, _+_, _*_, _≤_, _<_}
 use native.Mathlib.Omega.{arith}
 use native.Mathlib.Numerals.{add-one}
@@ -8,15 +8,11 @@ use mathlib.Core.List.{List, [], _∷_}
 use lib.Dec.{ltb}
 use lib.ListN.{length, take, drop, length-drop}
 use borrow.Author.Tests.{ltb-true, ltb-false}
-use Rattle.house.specs.Model.{Model, fresh}
+use Rattle.house.specs.Model.{Model}
 use Rattle.house.specs.Commands.{Command, step}
-use Rattle.house.specs.Balance.{Reached, runFrom}
 use Rattle.roll.specs.Decode.{isKnown, operandBytes, commandOf, recordOf}
 use Rattle.roll.specs.Reading.{Reading, stopped, answered, readTurns, readRoll}
-
-pub fresh-reached : Reached fresh
-unfolding runFrom
-fresh-reached = record { commands = []; comes = refl }
+pub use Rattle.roll.proofs.RollsBalanced.{fresh-reached}
 
 -- a turn either stops or answers one command, for which the book has room
 module _ (P : Reading → Type 0) (m : Model) (book : List ℕ) (bytes : ℕ) (c : Command) (answer : List ℕ) (r : Reading) where

@@ -10,7 +10,7 @@ use lib.Seq.{drop-cons, drop-drop, drop-at, take-at, take-nil, take-take, getD-t
 use Rattle.house.specs.declared.answer.Answer.{Answer}
 use Rattle.roll.specs.Bytes.{numberFrom, numberOf, bytesOf}
 use Rattle.roll.specs.Decode.{recordOf}
-use Rattle.roll.specs.Balance.{answerFrom}
+use Rattle.roll.specs.Balance.{entryFrom}
 use Rattle.roll.specs.Orders.{saleIn}
 
 -- one digit more, to the base 256
@@ -116,17 +116,17 @@ two-bytes-below [] small = omega arith
 two-bytes-below (a ∷ []) small = omega (arith, small 0)
 two-bytes-below (a ∷ b ∷ l) small = omega (arith, small 0, small 1)
 
--- an answer is read back from its record, whatever stands after it
-pub answer-back :
+-- an answer and its command's byte are read back from their record, whatever stands after it
+pub entry-back :
     (byte : ℕ) (a : Answer) (rest : List ℕ)
     → a .number < 2 ^ 32
     → a .cents < 2 ^ 64
-    → answerFrom (take 14 (recordOf byte a ++ rest)) ≡ a
+    → entryFrom (take 14 (recordOf byte a ++ rest)) ≡ record { byte = byte; answer = a }
 unfolding recordOf bytesOf
-answer-back byte a rest number cents =
+entry-back byte a rest number cents =
     let n = number-of-bytes 4 (a .number) number in
     let c = number-of-bytes 8 (a .cents) cents in
-    λ i. record { code = a .code; number = n i; cents = c i }
+    λ i. record { byte = byte; answer = record { code = a .code; number = n i; cents = c i } }
 
 pub record-passed : (byte : ℕ) (a : Answer) (rest : List ℕ) → drop 14 (recordOf byte a ++ rest) ≡ rest
 unfolding recordOf bytesOf

@@ -18,8 +18,8 @@ use Rattle.house.specs.declared.answer.Answer.{Answer}
 use Rattle.commands.specs.declared.command.Command.{Command}
 use Rattle.roll.specs.Bytes.{bytesOf}
 use Rattle.roll.specs.Decode.{isKnown, operandBytes, commandOf, recordOf}
-use Rattle.roll.specs.Reading.{Reading, stopped, answered, readTurns, readRoll}
-use Rattle.roll.specs.Orders.{orderOf, decodedAt, verdictOf, Reported}
+use Rattle.roll.specs.Reading.{Reading, stopped, answered, readTurns, readRoll, AllRefused}
+use Rattle.roll.specs.Orders.{orderOf, decodedAt, verdictOf}
 use Rattle.roll.specs.declared.decode.Decoded.the-variants.{Whole, Stop}
 use Rattle.roll.specs.declared.reader.Verdict.the-variants.{Carried, Refused}
 use Rattle.roll.proofs.DecodeLaws.{order-meant, Stands}
@@ -174,15 +174,18 @@ pub record Joins (whole left : Reading) (front : List ℕ) (read answers : ℕ) 
   pub count : whole .answers ≡ answers + left .answers
   pub text : whole .book ≡ front ++ left .book
 
--- so many bytes were read and so many answers written, and the rest of the reading is that of what is left
-pub record Ahead (whole : Reading) (m : Model) (roll book : List ℕ) (read answers : ℕ) : Type 0 where
+-- so many bytes were read and so many answers written, and the rest of the reading is that of what is left; if nothing was to be accepted, then
+-- nothing of what is left is
+pub record Ahead (quiet : Type 0) (whole : Reading) (m : Model) (roll book : List ℕ) (read answers : ℕ) : Type 0 where
   pub turns : ℕ
   pub enough : length roll < read + turns
   pub within : read ≤ length roll
   pub room : answers * 14 ≤ length book
   pub joins : Joins whole (readTurns turns m (drop read roll) (drop (answers * 14) book)) (take (answers * 14) book) read answers
+  pub refused : quiet → AllRefused m (readTurns turns m (drop read roll) (drop (answers * 14) book) .commands)
 
-pub ahead-starts : (m : Model) (roll book : List ℕ) → Ahead (readRoll m roll book) m roll book 0 0
+pub ahead-starts :
+    (m : Model) (roll book : List ℕ) → Ahead (AllRefused m (readRoll m roll book .commands)) (readRoll m roll book) m roll book 0 0
 ahead-starts m roll book =
     record {
       turns = length roll + 1;
@@ -190,6 +193,7 @@ ahead-starts m roll book =
       within = omega arith;
       room = omega arith;
       joins = record { house = refl; stop = refl; bytes = omega arith; count = omega arith; text = refl };
+      refused = λ none. none;
     }
 
 first-byte : (l : List ℕ) (at : ℕ) → getD (drop at l) 0 0 ≡ getD l at 0
@@ -199,15 +203,17 @@ first-byte l at =
 
 -- an answered command is passed, with its record in the book
 next-ahead :
-    (whole : Reading) (m : Model) (roll book : List ℕ) (read answers : ℕ) (c : Rattle.house.specs.Commands.Command) (size : ℕ) (book′ : List ℕ) (turns : ℕ)
+    (quiet : Type 0) (whole : Reading) (m : Model) (roll book : List ℕ) (read answers : ℕ) (c : Rattle.house.specs.Commands.Command) (size : ℕ) (book′ : List ℕ) (turns : ℕ)
     → answers * 14 + 14 ≤ length book
     → 0 < size
     → length roll < read + suc turns
     → read + size ≤ length roll
     → Joins whole (answeredBy turns m (drop (answers * 14) book) size c (getD roll read 0) (drop size (drop read roll))) (take (answers * 14) book) read answers
+    → (quiet → AllRefused m (c ∷ readTurns turns (step m c .house) (drop size (drop read roll)) (drop 14 (drop (answers * 14) book)) .commands))
     → book′ ≡ take (answers * 14) book ++ (recordOf (getD roll read 0) (step m c .answer) ++ drop 14 (drop (answers * 14) book))
-    → Ahead whole (step m c .house) roll book′ (read + size) (answers + 1)
-next-ahead whole m roll book read answers c size book′ turns room some enough within j written =
+    → Ahead quiet whole (step m c .house) roll book′ (read + size) (answers + 1)
+unfolding AllRefused
+next-ahead quiet whole m roll book read answers c size book′ turns room some enough within j none written =
     let front = take (answers * 14) book in
     let entry = recordOf (getD roll read 0) (step m c .answer) in
     let back = drop 14 (drop (answers * 14) book) in
@@ -234,45 +240,54 @@ next-ahead whole m roll book read answers c size book′ turns room some enough 
                 ∙ sym (append-assoc front entry (left .book))
                 ∙ ap₂ _++_ (sym through) (ap (λ r. r .book) same);
           };
+      refused = λ q. subst (λ (r : Reading). AllRefused (step m c .house) (r .commands)) same (none q .1);
     }
 
-module _ (whole : Reading) (m : Model) (roll book : List ℕ) (read answers : ℕ) (a : Ahead whole m roll book read answers) where
+-- what the reader reports at last of a house and of the buffers beside it
+pub record Ended (whole : Reading) (m : Model) (code read answers : ℕ) (book : List ℕ) : Type 0 where
+  pub house : m ≡ whole .house
+  pub stop : code ≡ whole .stop
+  pub bytes : read ≡ whole .read
+  pub count : answers ≡ whole .answers
+  pub text : book ≡ whole .book
+
+module _ (quiet : Type 0) (whole : Reading) (m : Model) (roll book : List ℕ) (read answers : ℕ) (a : Ahead quiet whole m roll book read answers) where
   abbrev done : ℕ
   done = answers * 14
 
-  ends : (code : ℕ) → Joins whole (stopped m code (drop done book)) (take done book) read answers → Reported whole m code read answers book
+  ends : (code : ℕ) → Joins whole (stopped m code (drop done book)) (take done book) read answers → Ended whole m code read answers book
   ends code j =
       record {
         house = sym (j .house);
         stop = sym (j .stop);
-        read = omega (arith, j .bytes);
-        answers = omega (arith, j .count);
-        book = sym (j .text ∙ take-append-drop done book);
+        bytes = omega (arith, j .bytes);
+        count = omega (arith, j .count);
+        text = sym (j .text ∙ take-append-drop done book);
       }
 
   -- the last turn
-  pub ahead-stops : (code : ℕ) → decodedAt (drop read roll) ≡ Stop code → Reported whole m code read answers book
+  pub ahead-stops : (code : ℕ) → decodedAt (drop read roll) ≡ Stop code → Ended whole m code read answers book
   ahead-stops code decoded = go (a .turns) (a .enough) (a .joins)
     where
       go :
           (turns : ℕ)
           → length roll < read + turns
           → Joins whole (readTurns turns m (drop read roll) (drop done book)) (take done book) read answers
-          → Reported whole m code read answers book
+          → Ended whole m code read answers book
       go zero enough j = absurd (omega (arith, a .within))
       go (suc turns) enough j =
           ends code
           (subst (λ r. Joins whole r (take done book) read answers) (turn-stops turns m (drop read roll) (drop done book) code decoded) j)
 
   module _ (order : Command) (size : ℕ) (s : Stands (drop read roll) order size) where
-    pub ahead-full : length book < done + 14 → Reported whole m 3 read answers book
+    pub ahead-full : length book < done + 14 → Ended whole m 3 read answers book
     ahead-full full = go (a .turns) (a .enough) (a .joins)
       where
         go :
             (turns : ℕ)
             → length roll < read + turns
             → Joins whole (readTurns turns m (drop read roll) (drop done book)) (take done book) read answers
-            → Reported whole m 3 read answers book
+            → Ended whole m 3 read answers book
         go zero enough j = absurd (omega (arith, a .within))
         go (suc turns) enough j =
             ends 3
@@ -284,24 +299,44 @@ module _ (whole : Reading) (m : Model) (roll book : List ℕ) (read answers : �
     command-within = omega (arith, s .long, s .enough, ap length (s .begins), length-drop read roll, a .within)
 
     -- one more answer, its record written after the others
-    pub ahead-more :
-        (marks book′ : List ℕ)
-        → done + 14 ≤ length book
-        → marks ≡ drop 9 (take size (drop read roll))
-        → book′
-        ≡ take done book
-        ++ (recordOf (getD roll read 0) (step m (meant order marks) .answer) ++ drop 14 (drop done book))
-        → Ahead whole (step m (meant order marks) .house) roll book′ (read + size) (answers + 1)
-    ahead-more marks book′ room same written = go (a .turns) (a .enough) (a .joins)
-      where
-        go :
-            (turns : ℕ)
-            → length roll < read + turns
-            → Joins whole (readTurns turns m (drop read roll) (drop done book)) (take done book) read answers
-            → Ahead whole (step m (meant order marks) .house) roll book′ (read + size) (answers + 1)
-        go zero enough j = absurd (omega (arith, a .within))
-        go (suc turns) enough j = next-ahead whole m roll book read answers (meant order marks) size book′ turns room (omega (arith, s .long)) enough command-within
-            (subst (λ r. Joins whole r (take done book) read answers)
-            (turn-answers turns m (drop read roll) (drop done book) order size s marks (omega (arith, length-drop done book)) same
-            ∙ ap (λ b. answeredBy turns m (drop done book) size (meant order marks) b (drop size (drop read roll))) (first-byte roll read)) j)
-            written
+    module _ (marks : List ℕ) (room : done + 14 ≤ length book) (same : marks ≡ drop 9 (take size (drop read roll))) where
+      turn-here : (turns : ℕ) → readTurns (suc turns) m (drop read roll) (drop done book)
+          ≡ answeredBy turns m (drop done book) size (meant order marks) (getD roll read 0) (drop size (drop read roll))
+      turn-here turns =
+          turn-answers turns m (drop read roll) (drop done book) order size s marks (omega (arith, length-drop done book)) same
+          ∙ ap (λ b. answeredBy turns m (drop done book) size (meant order marks) b (drop size (drop read roll))) (first-byte roll read)
+
+      pub ahead-more :
+          (book′ : List ℕ)
+          → book′
+          ≡ take done book
+          ++ (recordOf (getD roll read 0) (step m (meant order marks) .answer) ++ drop 14 (drop done book))
+          → Ahead quiet whole (step m (meant order marks) .house) roll book′ (read + size) (answers + 1)
+      ahead-more book′ written = go (a .turns) (a .enough) (a .joins) (a .refused)
+        where
+          go :
+              (turns : ℕ)
+              → length roll < read + turns
+              → Joins whole (readTurns turns m (drop read roll) (drop done book)) (take done book) read answers
+              → (quiet → AllRefused m (readTurns turns m (drop read roll) (drop done book) .commands))
+              → Ahead quiet whole (step m (meant order marks) .house) roll book′ (read + size) (answers + 1)
+          go zero enough j none = absurd (omega (arith, a .within))
+          go (suc turns) enough j none =
+              next-ahead quiet whole m roll book read answers (meant order marks) size book′ turns room (omega (arith, s .long)) enough command-within
+              (subst (λ r. Joins whole r (take done book) read answers) (turn-here turns) j)
+              (λ q. subst (λ (r : Reading). AllRefused m (r .commands)) (turn-here turns) (none q))
+              written
+
+      -- where nothing was to be accepted, neither is this command
+      pub refused-here : quiet → step m (meant order marks) .answer .code ≡ 0 → ⊥
+      unfolding AllRefused
+      refused-here q = go (a .turns) (a .enough) (a .refused q)
+        where
+          go :
+              (turns : ℕ)
+              → length roll < read + turns
+              → AllRefused m (readTurns turns m (drop read roll) (drop done book) .commands)
+              → step m (meant order marks) .answer .code ≡ 0
+              → ⊥
+          go zero enough none = absurd (omega (arith, a .within))
+          go (suc turns) enough none = subst (λ (r : Reading). AllRefused m (r .commands)) (turn-here turns) none .0

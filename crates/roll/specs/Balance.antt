@@ -8,6 +8,7 @@ use Rattle.house.specs.Commands.{Command, step}
 use Rattle.house.specs.declared.answer.Answer.{Answer}
 use Rattle.house.specs.Balance.{run, TillBalances}
 use Rattle.roll.specs.Bytes.{numberOf}
+use Rattle.roll.specs.Decode.{byteOf}
 use Rattle.roll.specs.Reading.{readRoll}
 
 -- a roll and the book that it is read into, as it was before
@@ -27,30 +28,38 @@ answeredIn m (s ∷ ss) =
     let r = readRoll m (s .roll) (s .book) in
     r .commands ++ answeredIn (r .house) ss
 
--- the answers to some commands, one after another
-unfoldable pub answersTo : Model → List Command → List Answer
-answersTo m [] = []
-answersTo m (c ∷ cs) = step m c .answer ∷ answersTo (step m c .house) cs
+-- an entry of a book: the byte of a command, and its answer
+pub record Entry : Type 0 where
+  pub byte : ℕ
+  pub answer : Answer
 
--- an answer from its 14 bytes, and the answers of a book that has so many
-abbrev pub answerFrom : List ℕ → Answer
-answerFrom bytes =
-    record { code = getD bytes 1 0; number = numberOf (take 4 (drop 2 bytes)); cents = numberOf (take 8 (drop 6 bytes)) }
+-- the entries that some commands ask for, one after another
+unfoldable pub entriesTo : Model → List Command → List Entry
+entriesTo m [] = []
+entriesTo m (c ∷ cs) = record { byte = byteOf c; answer = step m c .answer } ∷ entriesTo (step m c .house) cs
 
-unfoldable pub answersFrom : ℕ → List ℕ → List Answer
-answersFrom zero book = []
-answersFrom (suc n) book = answerFrom (take 14 book) ∷ answersFrom n (drop 14 book)
+-- an entry from its 14 bytes, and the entries of a book that has so many
+abbrev pub entryFrom : List ℕ → Entry
+entryFrom bytes =
+    record {
+      byte = getD bytes 0 0;
+      answer = record { code = getD bytes 1 0; number = numberOf (take 4 (drop 2 bytes)); cents = numberOf (take 8 (drop 6 bytes)) };
+    }
 
--- the answers that stand in the books, in the order of the rolls
-unfoldable pub answersIn : Model → List Sitting → List Answer
-answersIn m [] = []
-answersIn m (s ∷ ss) =
+unfoldable pub entriesFrom : ℕ → List ℕ → List Entry
+entriesFrom zero book = []
+entriesFrom (suc n) book = entryFrom (take 14 book) ∷ entriesFrom n (drop 14 book)
+
+-- the entries that stand in the books, in the order of the rolls
+unfoldable pub entriesIn : Model → List Sitting → List Entry
+entriesIn m [] = []
+entriesIn m (s ∷ ss) =
     let r = readRoll m (s .roll) (s .book) in
-    answersFrom (r .answers) (r .book) ++ answersIn (r .house) ss
+    entriesFrom (r .answers) (r .book) ++ entriesIn (r .house) ss
 
 -- Demand 3 over rolls: the house is that of the commands answered, in order, from a fresh one; the till balances over that list; and the books
--- have its answers.
+-- have its answers, each after its command's byte.
 pub record RollsBalance (ss : List Sitting) : Type 0 where
   pub house : houseAfter fresh ss ≡ run (answeredIn fresh ss) .house
   pub till : TillBalances (answeredIn fresh ss)
-  pub answers : answersIn fresh ss ≡ answersTo fresh (answeredIn fresh ss)
+  pub answers : entriesIn fresh ss ≡ entriesTo fresh (answeredIn fresh ss)

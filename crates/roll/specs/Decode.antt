@@ -45,6 +45,16 @@ commandOf byte bytes =
     (cond (eqb byte 5) (claim (numberOf bytes))
     (cond (eqb byte 6) expire (transfer (getD bytes 0 0) (numberOf (drop 1 bytes))))))))
 
+-- the byte of a command
+abbrev pub byteOf : Command → ℕ
+byteOf (open′ d) = 1
+byteOf (sell o) = 2
+byteOf (cancel n) = 3
+byteOf (ball b) = 4
+byteOf (claim n) = 5
+byteOf expire = 6
+byteOf (transfer j cents) = 7
+
 -- an answer's 14 bytes
 unfoldable pub recordOf : ℕ → Answer → List ℕ
 recordOf byte a = byte ∷ a .code ∷ bytesOf 4 (a .number) ++ bytesOf 8 (a .cents)

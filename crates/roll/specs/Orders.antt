@@ -9,12 +9,14 @@ use Rattle.commands.specs.declared.command.Sale.{Sale}
 use Rattle.commands.specs.declared.command.Command.{Command}
 use Rattle.commands.specs.declared.command.Command.the-variants.{Open, Sell, Cancel, Ball, Claim, Expire, Transfer}
 use Rattle.house.specs.declared.answer.Answer.{Answer}
-use Rattle.house.specs.Model.{Model}
+use Rattle.house.specs.declared.state.House.{House}
+use Rattle.house.specs.View.{view}
 use Rattle.roll.specs.Bytes.{numberOf}
 use Rattle.roll.specs.Decode.{isKnown, operandBytes}
-use Rattle.roll.specs.Reading.{Reading}
+use Rattle.roll.specs.Reading.{Reading, readRoll, AllRefused}
 use Rattle.roll.specs.declared.decode.Decoded.{Decoded}
 use Rattle.roll.specs.declared.decode.Decoded.the-variants.{Whole, Stop}
+use Rattle.roll.specs.declared.reader.Report.{Report}
 use Rattle.roll.specs.declared.reader.Verdict.{Verdict}
 use Rattle.roll.specs.declared.reader.Verdict.the-variants.{Carried, Refused}
 
@@ -56,10 +58,18 @@ stopOf (Stop code) = code
 unfoldable pub verdictOf : Answer → Verdict
 verdictOf a = cond (eqb (a .code) 0) (Carried (a .number) (a .cents)) (Refused (a .code))
 
+-- the reading of a roll into a book, from the house that is handed in with the words and marks that are lent
+abbrev pub readingOf : House → List ℕ → List ℕ → List ℕ → List ℕ → Reading
+readingOf h words marks roll book = readRoll (view h words marks) roll book
+
 -- a reading as the reader reports it: the house after it, the stop code, bytes read, answers written, and the whole book
-pub record Reported (whole : Reading) (after : Model) (code bytes count : ℕ) (written : List ℕ) : Type 0 where
-  pub house : after ≡ whole .house
-  pub stop : code ≡ whole .stop
-  pub read : bytes ≡ whole .read
-  pub answers : count ≡ whole .answers
-  pub book : written ≡ whole .book
+pub record Reported (h : House) (words marks roll lent : List ℕ) (r : Report) (words′ marks′ written : List ℕ) : Type 0 where
+  pub house : view (r .house) words′ marks′ ≡ readingOf h words marks roll lent .house
+  pub stop : r .stop ≡ readingOf h words marks roll lent .stop
+  pub read : r .read ≡ readingOf h words marks roll lent .read
+  pub answers : r .answers ≡ readingOf h words marks roll lent .answers
+  pub book : written ≡ readingOf h words marks roll lent .book
+  -- where no answer has the code 0, struct, words and marks are those before
+  pub refused :
+      AllRefused (view h words marks) (readingOf h words marks roll lent .commands)
+      → (r .house ≡ h) × (words′ ≡ words) × (marks′ ≡ marks)

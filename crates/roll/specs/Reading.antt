@@ -3,6 +3,7 @@
 -- answered commands [..]. The book beyond its answers is untouched. Stop 0: end of roll. 1 unknown byte; 2 too few bytes left; 3 under 14 bytes
 -- free in the book".
 use Prim.Native.Nat.{ℕ, zero, suc, _+_}
+use mathlib.Core.Path.{_≡_}
 use mathlib.Core.Bool.{cond, not}
 use mathlib.Core.List.{List, [], _∷_, _++_}
 use lib.Dec.{ltb}
@@ -52,3 +53,8 @@ readTurns (suc turns) m (byte ∷ rest) book =
 
 abbrev pub readRoll : Model → List ℕ → List ℕ → Reading
 readRoll m roll book = readTurns (length roll + 1) m roll book
+
+-- every command of a list is refused, each on the house that the last one left
+unfoldable pub AllRefused : Model → List Command → Type 0
+AllRefused m [] = Unit {0}
+AllRefused m (c ∷ cs) = (step m c .answer .code ≡ 0 → ⊥) × AllRefused (step m c .house) cs

@@ -10,7 +10,6 @@ ghost use Prim.Native.Nat.{_+_, _≤_};
 ghost use lib.ListN.{length, take, drop};
 ghost use Rattle.house.specs.Balance.{Reached};
 ghost use Rattle.house.specs.View.{view};
-ghost use Rattle.roll.specs.Reading.{readRoll};
 ghost use Rattle.roll.specs.Orders.{stopOf, verdictOf, Reported};
 
 // The house after a roll, the stop code, the bytes of the answered commands, and how many answers were written.
@@ -83,7 +82,7 @@ pub fn read_roll(
     book: &mut [u8],
 ) -> Report
     requires { ⌜ Reached (view house (now rows) (now marks)) ⌝ }
-    ensures { λ r. ⌜ Reported (readRoll (view house (now (rows .entry)) (now (marks .entry))) (now (roll .entry)) (now (book .entry))) (view (r .house) (now (rows .exit)) (now (marks .exit))) (r .stop) (r .read) (r .answers) (now (book .exit)) ⌝ }
+    ensures { λ r. ⌜ Reported house (now (rows .entry)) (now (marks .entry)) (now (roll .entry)) (now (book .entry)) r (now (rows .exit)) (now (marks .exit)) (now (book .exit)) ⌝ }
 {
     let mut here = house;
     let mut read = 0;

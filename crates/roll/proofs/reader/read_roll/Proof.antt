@@ -1,5 +1,6 @@
 -- `roll::reader::read_roll` meets its contract. The loop's invariant: the house is reached, and the reading of the whole roll is what was
--- answered so far and the reading of what is left. The measure is what is left of the roll.
+-- answered so far and the reading of what is left; if no command of the roll is accepted, then struct and buffers are as they were. The measure is
+-- what is left of the roll.
 use Prim.Native.Nat.{ℕ, _+_, _-_, _*_, _≤_, _<_}
 use mathlib.Core.Path.{_≡_, refl, sym, ap, subst, _∙_}
 use mathlib.Core.List.{List, _++_}
@@ -12,23 +13,30 @@ use Rattle.house.specs.Balance.{Reached}
 use Rattle.house.specs.View.{view}
 use Rattle.commands.specs.Meant.{meant}
 use Rattle.house.specs.declared.answer.Answer.{Answer}
+use Rattle.house.specs.declared.state.House.{House}
 use Rattle.commands.specs.declared.command.Command.{Command}
 use Rattle.house.proofs.Theorem.{reached-step}
 use Rattle.roll.specs.Decode.{recordOf}
-use Rattle.roll.specs.Reading.{Reading, readRoll}
-use Rattle.roll.specs.Orders.{stopOf}
+use Rattle.roll.specs.Reading.{Reading, AllRefused}
+use Rattle.roll.specs.Orders.{stopOf, readingOf, Reported}
+use Rattle.roll.specs.declared.reader.Report.{Report}
 use Rattle.roll.specs.declared.decode.Decoded.the-variants.{Stop}
 use Rattle.roll.proofs.DecodeLaws.{Stands, stands}
 use Rattle.roll.proofs.AnswerBounds.{refused-plain}
-use Rattle.roll.proofs.ReadingLaws.{Ahead, ahead-starts, ahead-stops, ahead-full, ahead-more, command-within, part-written, book-long, record-long, verdict-carried, verdict-refused}
+use Rattle.roll.proofs.ReadingLaws.{Ahead, Ended, refused-here, ahead-starts, ahead-stops, ahead-full, ahead-more, command-within, part-written, book-long, record-long, verdict-carried, verdict-refused}
 use Rattle.roll.proofs.reader.read_roll.Statement.{statement}
 use Rattle.roll.proofs.reader.read_roll.Tie as tie
+
+-- no command that the roll has answered is accepted
+abbrev Quiet : House → List ℕ → List ℕ → List ℕ → List ℕ → Type 0
+Quiet h words marks roll book = AllRefused (view h words marks) (readingOf h words marks roll book .commands)
 
 abbrev Inv-loop : tie.InvT-loop
 Inv-loop rows₀ marks₀ roll book₀ here₀ read₀ answers₀ rows marks book here read answers =
     Reached (view here rows marks)
-    × Ahead (readRoll (view here₀ rows₀ marks₀) roll book₀) (view here rows marks) roll book read answers
+    × Ahead (Quiet here₀ rows₀ marks₀ roll book₀) (readingOf here₀ rows₀ marks₀ roll book₀) (view here rows marks) roll book read answers
     × (length book ≡ length book₀)
+    × (Quiet here₀ rows₀ marks₀ roll book₀ → (here ≡ here₀) × (rows ≡ rows₀) × (marks ≡ marks₀))
 
 abbrev μ-loop : tie.MeasureT-loop
 μ-loop rows₀ marks₀ roll book₀ here₀ read₀ answers₀ rows marks book here read answers = length roll - read
@@ -54,13 +62,22 @@ module _ (c : tie.After-known-told Inv-loop μ-loop) where
   command-stands = stands (drop (turn .loop .read) roll) order size (sym (c .before .before .before .decode .ensures) ∙ c .before .decoded .given .1)
 
   ends-within : turn .loop .read + size ≤ length roll
-  ends-within = command-within _ _ _ _ _ _ (turn .loop .inv .1) _ _ command-stands
+  ends-within = command-within _ _ _ _ _ _ _ (turn .loop .inv .1) _ _ command-stands
 
   moves-on : length roll - (turn .loop .read + size) < length roll - turn .loop .read
   moves-on = omega (arith, ends-within, command-stands .long)
 
+-- the report at the end
+reported :
+    (h : House) (words marks roll lent : List ℕ) (r : Report) (words′ marks′ written : List ℕ)
+    → (Quiet h words marks roll lent → (r .house ≡ h) × (words′ ≡ words) × (marks′ ≡ marks))
+    → Ended (readingOf h words marks roll lent) (view (r .house) words′ marks′) (r .stop) (r .read) (r .answers) written
+    → Reported h words marks roll lent r words′ marks′ written
+reported h words marks roll lent r words′ marks′ written same e =
+    record { house = e .house; stop = e .stop; read = e .bytes; answers = e .count; book = e .text; refused = same }
+
 loop-holds : tie.Need-loop-holds Inv-loop μ-loop
-loop-holds c = (c .before .before .pre, ahead-starts _ _ _, refl)
+loop-holds c = (c .before .before .pre, ahead-starts _ _ _, refl, λ quiet. (refl, refl, refl))
 
 decode-requires : tie.Need-decode-requires Inv-loop μ-loop
 decode-requires c κs = search needs
@@ -81,7 +98,8 @@ returns : tie.Need-returns Inv-loop μ-loop
 returns c =
     let told = c .before .enum-told .given .1 in
     let code = c .stop-code .ensures ∙ ap stopOf told in
-    ahead-stops _ _ _ _ _ _ (c .before .before .before .before .loop .inv .1) (c .stop-code .result) (sym (c .before .before .before .decode .ensures) ∙ told ∙ ap Stop (sym code))
+    let inv = c .before .before .before .before .loop .inv in
+    reported _ _ _ _ _ _ _ _ _ (inv .3) (ahead-stops _ _ _ _ _ _ _ (inv .1) (c .stop-code .result) (sym (c .before .before .before .decode .ensures) ∙ told ∙ ap Stop (sym code)))
 
 mul-written : tie.Need-mul-written Inv-loop μ-loop
 mul-written c = search needs
@@ -94,8 +112,8 @@ same-length-2 c = turn (c .before) .loop .inv .2
 
 returns-2 : tie.Need-returns-2 Inv-loop μ-loop
 returns-2 c =
-    let ahead = turn (c .before) .loop .inv .1 in
-    ahead-full _ _ _ _ _ _ ahead _ _ (command-stands (c .before)) (omega (arith, ahead .room, c .if1 .taken))
+    let inv = turn (c .before) .loop .inv in
+    reported _ _ _ _ _ _ _ _ _ (inv .3) (ahead-full _ _ _ _ _ _ _ (inv .1) _ _ (command-stands (c .before)) (omega (arith, inv .1 .room, c .if1 .taken)))
 
 shared-slice-read-byte : tie.Need-shared-slice-read-byte Inv-loop μ-loop
 shared-slice-read-byte c = omega (arith, ends-within (c .before .before), command-stands (c .before .before) .long)
@@ -151,7 +169,29 @@ module _ (c : tie.After-verdict-of Inv-loop μ-loop) where
   abbrev whole : Reading
   whole =
       let args = entry told .args in
-      readRoll (view (args .house) (args .rows .now) (args .marks .now)) (roll told) (args .book .now)
+      readingOf (args .house) (args .rows .now) (args .marks .now) (roll told) (args .book .now)
+
+  abbrev quiet : Type 0
+  quiet =
+      let args = entry told .args in
+      Quiet (args .house) (args .rows .now) (args .marks .now) (roll told) (args .book .now)
+
+  abbrev ahead : Ahead quiet whole model (roll told) book (turn told .loop .read) (turn told .loop .answers)
+  ahead = turn told .loop .inv .1
+
+  -- a command that is refused leaves struct and buffers as they were
+  still :
+      let args = entry told .args in
+      let carried = c .before .before .before .carry-out in
+      quiet
+      → (carried .result .house ≡ args .house) × (carried .last .1 .0 ≡ args .rows .now) × (carried .last .1 .1 .0 ≡ args .marks .now)
+  still q =
+      let carried = c .before .before .before .carry-out .ensures in
+      let from = c .before .before .before .before .before .before .marks-of in
+      let refused = refused-here quiet whole model (roll told) book (turn told .loop .read) (turn told .loop .answers) ahead (order told) (size told) (command-stands told) (from .result .now) room (from .ensures) q in
+      let same = carried .refused (λ e. refused (sym (ap (λ (a : Answer). a .code) (carried .answer)) ∙ e)) in
+      let before = turn told .loop .inv .3 q in
+      (same .0 ∙ before .0, same .1 ∙ before .1, same .2 ∙ before .2)
 
   -- the answer's record is written, and the invariant holds again
   again :
@@ -169,11 +209,12 @@ module _ (c : tie.After-verdict-of Inv-loop μ-loop) where
       let new = putMid done (length book - done) book last in
       let answered = text ∙ ap (λ b. take done book ++ (recordOf byte b ++ drop 14 (drop done book))) (same ∙ carried .answer) in
       let next =
-      ahead-more whole model (roll told) book (turn told .loop .read) (turn told .loop .answers) (turn told .loop .inv .1) (order told) (size told) (command-stands told)
-      (from .result .now) new room (from .ensures) answered in (
+      ahead-more quiet whole model (roll told) book (turn told .loop .read) (turn told .loop .answers) ahead (order told) (size told) (command-stands told)
+      (from .result .now) room (from .ensures) new answered in (
         subst Reached (sym (carried .house)) (reached-step model (meant (order told) (from .result .now)) (turn told .loop .inv .0)),
-        subst (λ h. Ahead whole h (roll told) new (turn told .loop .read + size told) (turn told .loop .answers + 1)) (sym (carried .house)) next,
+        subst (λ h. Ahead quiet whole h (roll told) new (turn told .loop .read + size told) (turn told .loop .answers + 1)) (sym (carried .house)) next,
         ap length text ∙ book-long book (recordOf byte a) done (record-long byte a) room ∙ turn told .loop .inv .2,
+        still,
       )
 
 enum-told-2 : tie.Need-enum-told-2 Inv-loop μ-loop

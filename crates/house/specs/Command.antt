@@ -1,0 +1,14 @@
+-- "Open: day (2) [..] Sell: kind (1), games (1), stake (4), groups (1), types (1), marks (80) [..] Cancel: ticket (4) [..] Ball: number (1) [..] Claim:
+-- ticket (4) [..] Expire [..] Transfer: jackpot 6 or 8 (1), cents (4)": the seven commands with their operands, and nothing of what they do.
+-- The house and the count sheet are both fed them.
+use Prim.Native.Nat.{ℕ}
+use Rattle.rules.specs.Checks.{Operands}
+
+pub data Command : Type 0 where
+  open′ : ℕ → Command
+  sell : Operands → Command
+  cancel : ℕ → Command
+  ball : ℕ → Command
+  claim : ℕ → Command
+  expire : Command
+  transfer : ℕ → ℕ → Command
