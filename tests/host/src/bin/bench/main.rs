@@ -34,6 +34,7 @@ fn cases() -> Vec<Case> {
     let mut cases = commands::cases();
     cases.extend(growth::cases());
     cases.extend(settlement::cases());
+    cases.push(growth::expiry());
     cases.push(day::case());
     cases
 }
