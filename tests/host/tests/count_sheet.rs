@@ -4,7 +4,6 @@
 
 mod side_by_side;
 
-use host::Lounge;
 use reference::command::length;
 use reference::roll::{read_answer, ANSWER_BYTES};
 use reference::till::balances;
@@ -12,6 +11,7 @@ use reference::{Cents, Command, CountSheet};
 use rolls::mixed;
 use side_by_side::{figures, jackpot, reference_jackpot};
 use std::collections::HashSet;
+use wulipday::Lounge;
 
 /// The core and the sheet, and the tickets claimed so far.
 struct Count {

@@ -1,9 +1,9 @@
 //! Document 01's printed roll and settled examples on the proved core alone,
 //! with the document's own figures.
 
-use host::{Lounge, Till};
 use reference::roll::{read_answer, ANSWER_BYTES};
 use reference::{Answer, Command};
+use wulipday::{Lounge, Till};
 
 /// A day on which tickets are sold, drawn and claimed.
 struct Desk {

@@ -3,7 +3,6 @@
 
 mod side_by_side;
 
-use host::{JournaledLounge, Lounge};
 use reference::command::length;
 use reference::roll::ANSWER_BYTES;
 use reference::{run_roll, House};
@@ -12,6 +11,7 @@ use side_by_side::Pair;
 use std::fs;
 use std::io::ErrorKind;
 use std::path::PathBuf;
+use wulipday::{JournaledLounge, Lounge};
 
 /// An empty place for a journal.
 fn place(name: &str) -> PathBuf {
@@ -139,7 +139,7 @@ fn a_damaged_journal_is_not_replayed() {
 #[test]
 fn the_readme_shows_this_code() {
     const README: &str = include_str!("../../../README.md");
-    const CODE: &str = include_str!("../src/journal.rs");
+    const CODE: &str = include_str!("../../../hosts/rust/src/journal.rs");
     let (_, after) = README.split_once("```rust\n").expect("code in the README");
     let (shown, _) = after.split_once("```").expect("its end");
     assert!(CODE.contains(shown), "{shown}");

@@ -3,12 +3,12 @@
 
 mod side_by_side;
 
-use host::Lounge;
 use reference::command::{BALL, SELL};
 use reference::roll::ANSWER_BYTES;
 use reference::{Command, House};
 use rolls::{FarGames, RollWriter};
 use side_by_side::Pair;
+use wulipday::Lounge;
 
 /// Runs a roll that must be read whole.
 fn walk(lounge: &mut Lounge, roll: &[u8], book: &mut [u8]) {

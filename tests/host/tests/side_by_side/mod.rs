@@ -7,13 +7,13 @@
 pub mod edges;
 pub mod lucky;
 
-use host::{Lounge, Report};
 use reference::command::{length, BALL};
 use reference::roll::{ANSWER_BYTES, STOP_BOOK_FULL};
 use reference::till::FIGURES;
 use reference::{run_roll, Cents, Flaw, House};
 use rolls::Coverage;
 use std::fmt::Debug;
+use wulipday::{Lounge, Report};
 
 /// What the two do not agree on.
 pub type Difference = String;
@@ -228,7 +228,7 @@ fn whole_command(roll: &[u8]) -> Option<usize> {
     (size <= roll.len()).then_some(size)
 }
 
-pub fn figures(till: &host::Till) -> [Cents; 9] {
+pub fn figures(till: &wulipday::Till) -> [Cents; 9] {
     let retained = Cents::from(till.retained);
     let unsigned = [
         till.taken,
@@ -246,7 +246,7 @@ pub fn figures(till: &host::Till) -> [Cents; 9] {
     figures
 }
 
-pub fn jackpot(pools: &host::Jackpot) -> [Cents; 4] {
+pub fn jackpot(pools: &wulipday::Jackpot) -> [Cents; 4] {
     [pools.primary, pools.secondary, pools.reimbursement, pools.debt].map(Cents::from)
 }
 
