@@ -106,9 +106,10 @@ impl JournaledLounge {
     }
 
     /// Runs a roll, as [`Lounge::roll`] does. Its answers may be handed out once
-    /// this has returned `Ok`. After another error than
-    /// [`JournalError::RollTooLong`] the house is ahead of its journal: nothing of
-    /// the roll counts, and the journal has to be opened again.
+    /// this has returned `Ok`.
+    ///
+    /// After [`JournalError::NotKept`] the house is ahead of its journal. Nothing of
+    /// the roll may be answered, and the journal has to be opened again.
     pub fn roll(&mut self, roll: &[u8], book: &mut [u8]) -> Result<Report, JournalError> {
         if self.failed {
             return Err(JournalError::OpenAgain);
