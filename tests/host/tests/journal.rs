@@ -12,6 +12,10 @@ use std::fs;
 use std::path::PathBuf;
 use wulipday::{replay, JournaledLounge, Lounge};
 
+/// Bytes of a journal's header, and of what stands around the commands of an append.
+const HEADER: usize = 32;
+const AROUND: usize = 20;
+
 /// An empty place for a journal.
 fn place(name: &str) -> PathBuf {
     let path = PathBuf::from(env!("CARGO_TARGET_TMPDIR")).join(name);
@@ -44,13 +48,13 @@ impl Journal {
         let path = place(name);
         let mut house = JournaledLounge::open(&path).expect("a new journal");
         let mut commands = Vec::new();
-        let mut ends = vec![(0, Vec::new()), (32, Vec::new())];
+        let mut ends = vec![(0, Vec::new()), (HEADER, Vec::new())];
         for roll in rolls {
             let report = house.roll(roll, &mut book_for(roll)).expect("kept");
             commands.extend(&roll[..report.read]);
             let length = fs::metadata(&path).expect("a journal").len() as usize;
             let grown = length - ends[ends.len() - 1].0;
-            assert_eq!(grown, if report.read > 0 { report.read + 20 } else { 0 });
+            assert_eq!(grown, if report.read > 0 { report.read + AROUND } else { 0 });
             ends.push((length, commands.clone()));
         }
         Journal { bytes: fs::read(&path).expect("a journal"), ends }
@@ -85,7 +89,7 @@ fn crash_and_go_on(name: &str, journal: &Journal, left: usize) {
 
     let mut house = JournaledLounge::open(&path).expect("a journal cut off is no damage");
     let kept = fs::read(&path).expect("a journal");
-    assert_eq!(kept, journal.bytes[..(*end).max(32)], "{left} bytes left");
+    assert_eq!(kept, journal.bytes[..(*end).max(HEADER)], "{left} bytes left");
     stands_like(house.lounge(), answered);
 
     let mut steady = Lounge::fresh();
@@ -111,7 +115,8 @@ fn crashes_everywhere() {
     for seed in [1998, 2026] {
         let journal = Journal::of("sitting", &sitting(seed));
         let end = journal.bytes.len();
-        let mut places = vec![0, 1, 31, 32, 33, 36, 44, 45, end / 2, end - 1, end];
+        let mut places =
+            vec![0, 1, HEADER - 1, HEADER, HEADER + 1, HEADER + 4, end / 2, end - 1, end];
         places.extend((0..24).map(|_| random.below(end as u64) as usize));
         for left in places {
             crash_and_go_on("crashed", &journal, left);

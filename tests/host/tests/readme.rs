@@ -20,6 +20,11 @@ fn the_readme_shows_the_hosts() {
 }
 
 #[test]
+fn the_readme_leads_to_the_protocol() {
+    assert!(README.contains("[docs/PROTOCOL.md](docs/PROTOCOL.md)"));
+}
+
+#[test]
 fn the_readme_names_the_version_that_is_wanted() {
     let version = MANIFEST.lines().find_map(|line| line.strip_prefix("rust-version = "));
     let version = version.expect("a version").trim_matches('"');
