@@ -20,7 +20,8 @@
  *
  * A lent run of bytes is two arguments, its first byte's address and its length.
  * No call keeps an address, allocates memory, or fails in any way but by the
- * codes below. Money is in cents.
+ * codes below. Money is in cents. Commands, codes and the rules behind them stand
+ * in docs/PROTOCOL.md.
  */
 #ifndef WULIPDAY_H
 #define WULIPDAY_H
@@ -124,10 +125,12 @@ wulipday_house wulipday_fresh(void);
 
 /* Carries out the first command of the bytes and writes its answer.
  *
- * The report's stop says what the bytes were:
- *   0  one command, which was answered; or no byte at all, and then answers is 0;
- *   1  no known command, 2 a command cut off: nothing was done or written;
- *   3  a command, which was answered, with more bytes after it. */
+ * The report's answers says what was done:
+ *   1  the first command was carried out or refused, and read is its bytes. The
+ *      stop then only says what comes behind it: 0 nothing, 1 an unknown byte,
+ *      2 a command cut off, 3 a whole command;
+ *   0  nothing was done or written, and the stop says why: 0 there is no byte,
+ *      1 no known command, 2 a command cut off. */
 wulipday_report wulipday_command(wulipday_house house, uint64_t rows[WULIPDAY_WORDS],
                                  uint8_t marks[WULIPDAY_MARKS], const uint8_t *command,
                                  size_t command_length, uint8_t answer[WULIPDAY_ANSWER_BYTES]);

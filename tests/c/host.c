@@ -150,7 +150,38 @@ static void printed_roll_by_command(lounge *lounge)
     check_printed_till(lounge);
 }
 
-/* Bytes that are no command: nothing is done and nothing is written. */
+/* A whole command is done whatever comes behind it: answers is 1, read its bytes,
+ * and the stop tells what comes behind. */
+static void command_with_bytes_behind(lounge *lounge)
+{
+    static const struct {
+        uint8_t behind;
+        size_t bytes;
+        uint8_t stop;
+    } cases[] = {
+        {0, 0, WULIPDAY_STOP_END},
+        {0xFF, 1, WULIPDAY_STOP_UNKNOWN_BYTE},
+        {4, 1, WULIPDAY_STOP_TOO_FEW_BYTES},
+        {6, 1, WULIPDAY_STOP_BOOK_FULL},
+    };
+    for (size_t place = 0; place < sizeof cases / sizeof cases[0]; place++) {
+        const uint8_t bytes[] = {1, 0, 1, cases[place].behind};
+        uint8_t record[WULIPDAY_ANSWER_BYTES];
+        open_lounge(lounge);
+        /* Carried out, and then refused: a day can't be opened twice. */
+        for (unsigned code = 0; code <= 5; code += 5) {
+            wulipday_report report = wulipday_command(lounge->house, lounge->rows, lounge->marks,
+                                                      bytes, 3 + cases[place].bytes, record);
+            lounge->house = report.house;
+            CHECK(report.stop == cases[place].stop && report.read == 3 && report.answers == 1);
+            CHECK(answered(record, (answer){1, code, code == 0 ? 1 : 0, 0}));
+            CHECK(report.house.day == 1);
+        }
+    }
+}
+
+/* Without a whole command nothing is done and nothing is written: answers is 0, and
+ * the stop says why. */
 static void no_command(lounge *lounge)
 {
     static const uint8_t unknown[] = {8, 0, 1};
@@ -243,6 +274,7 @@ int main(void)
     static lounge lounge;
     printed_roll_at_once(&lounge);
     printed_roll_by_command(&lounge);
+    command_with_bytes_behind(&lounge);
     no_command(&lounge);
     full_book(&lounge);
     shared_jackpot(&lounge);

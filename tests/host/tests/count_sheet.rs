@@ -4,14 +4,14 @@
 
 mod side_by_side;
 
-use host::Lounge;
 use reference::command::length;
 use reference::roll::{read_answer, ANSWER_BYTES};
 use reference::till::balances;
 use reference::{Cents, Command, CountSheet};
 use rolls::mixed;
-use side_by_side::{figures, jackpot, reference_jackpot};
+use side_by_side::{jackpot, reference_jackpot};
 use std::collections::HashSet;
+use wulipday::{Lounge, Stop};
 
 /// The core and the sheet, and the tickets claimed so far.
 struct Count {
@@ -28,7 +28,7 @@ impl Count {
     fn give(&mut self, bytes: &[u8]) {
         let mut record = [0; ANSWER_BYTES];
         let report = self.lounge.command(bytes, &mut record);
-        assert_eq!((report.stop, report.read, report.answers), (0, bytes.len(), 1));
+        assert_eq!((report.stop, report.read, report.answers), (Stop::End, bytes.len(), 1));
         let (_, answer) = read_answer(&record);
         let command = Command::decode(bytes);
         let counted = self.sheet.feed(&command, answer.code);
@@ -40,7 +40,7 @@ impl Count {
     }
 
     fn compare(&self, command: &Command) {
-        let till = figures(&self.lounge.till());
+        let till = self.lounge.till().figures();
         assert_eq!(till, self.sheet.figures(), "{command:?}");
         assert!(balances(&till), "{command:?}");
         let (pools, counted) = (self.lounge.pools(), self.sheet.pools());

@@ -1,9 +1,9 @@
 //! Document 01's printed roll and settled examples on the proved core alone,
 //! with the document's own figures.
 
-use host::{Lounge, Till};
 use reference::roll::{read_answer, ANSWER_BYTES};
 use reference::{Answer, Command};
+use wulipday::{Lounge, Refusal, Stop, Till};
 
 /// A day on which tickets are sold, drawn and claimed.
 struct Desk {
@@ -22,7 +22,7 @@ impl Desk {
         let mut book = [0; ANSWER_BYTES];
         let roll = command.encode();
         let report = self.lounge.roll(&roll, &mut book);
-        assert_eq!((report.stop, report.read, report.answers), (0, roll.len(), 1));
+        assert_eq!((report.stop, report.read, report.answers), (Stop::End, roll.len(), 1));
         let (byte, answer) = read_answer(&book);
         assert_eq!(byte, roll[0]);
         answer
@@ -59,7 +59,7 @@ fn the_printed_roll() {
     let mut lounge = Lounge::fresh();
     let mut book = [7; 5 * ANSWER_BYTES];
     let report = lounge.roll(&roll, &mut book);
-    assert_eq!((report.stop, report.read, report.answers), (0, roll.len(), 4));
+    assert_eq!((report.stop, report.read, report.answers), (Stop::End, roll.len(), 4));
 
     let (records, beyond) = book.split_at(4 * ANSWER_BYTES);
     let answers: Vec<(u8, Answer)> = records.chunks(ANSWER_BYTES).map(read_answer).collect();
@@ -152,7 +152,7 @@ fn two_hundred_and_one_tickets() {
     }
     let one_more = Command::sell(0, 1, 100, &[&[1]], 1);
     assert_eq!(desk.give(one_more), Answer::refused(16));
-    assert_eq!(desk.lounge.live_list(&mut [0; 799]), Err(30));
+    assert_eq!(desk.lounge.live_list(&mut [0; 799]), Err(Refusal::ShortBuffer));
     assert_eq!(desk.lounge.live_list(&mut [0; 800]), Ok(200));
 }
 

@@ -1,27 +1,25 @@
 //! Rolls on a house with a journal, and crashes: what the journal tells is the
-//! house that was, and it goes on like one that never crashed.
+//! house that was, and it goes on like one that never crashed. What disks do to a
+//! journal's bytes is tested beside its code.
 
 mod side_by_side;
 
-use host::{JournaledLounge, Lounge};
-use reference::command::length;
 use reference::roll::ANSWER_BYTES;
 use reference::{run_roll, House};
 use rolls::{damaged, mixed, Random};
 use side_by_side::Pair;
 use std::fs;
-use std::io::ErrorKind;
 use std::path::PathBuf;
+use wulipday::{replay, JournaledLounge, Lounge};
+
+/// Bytes of a journal's header, and of what stands around the commands of an append.
+const HEADER: usize = 32;
+const AROUND: usize = 20;
 
 /// An empty place for a journal.
 fn place(name: &str) -> PathBuf {
     let path = PathBuf::from(env!("CARGO_TARGET_TMPDIR")).join(name);
-    fs::remove_file(&path)
-        .or_else(|error| match error.kind() {
-            ErrorKind::NotFound => Ok(()),
-            _ => Err(error),
-        })
-        .expect("an old journal can be removed");
+    fs::remove_file(&path).ok();
     path
 }
 
@@ -30,117 +28,114 @@ fn sitting(seed: u64) -> Vec<Vec<u8>> {
     let mut rolls = mixed::mixed_set(seed, 4, 150);
     rolls.extend(damaged::damaged_set(seed, 2));
     rolls.extend(mixed::mixed_set(seed + 1, 2, 150));
-    rolls
+    // Of some commands each.
+    rolls.iter().flat_map(|roll| roll.chunks(700).map(<[u8]>::to_vec)).collect()
 }
 
 fn book_for(roll: &[u8]) -> Vec<u8> {
     vec![0; roll.len() * ANSWER_BYTES]
 }
 
-/// Runs rolls with a journal, and answers the journal's bytes.
-fn journal_of(name: &str, rolls: &[Vec<u8>]) -> Vec<u8> {
-    let path = place(name);
-    let mut house = JournaledLounge::open(&path).expect("a new journal");
-    let mut read = Vec::new();
-    for roll in rolls {
-        let report = house.roll(roll, &mut book_for(roll)).expect("written");
-        read.extend(&roll[..report.read]);
-        assert_eq!(fs::read(&path).expect("a journal"), read, "written before it is answered");
-    }
-    read
+/// A journal, and for each of its appends where it ends and the commands so far.
+struct Journal {
+    bytes: Vec<u8>,
+    ends: Vec<(usize, Vec<u8>)>,
 }
 
-/// How many of the first bytes of a journal are whole commands.
-fn whole_commands(bytes: &[u8]) -> usize {
-    let mut end = 0;
-    while let Some(size) = bytes.get(end).and_then(|&byte| length(byte)) {
-        if end + size > bytes.len() {
-            break;
+impl Journal {
+    /// Runs rolls with a journal.
+    fn of(name: &str, rolls: &[Vec<u8>]) -> Journal {
+        let path = place(name);
+        let mut house = JournaledLounge::open(&path).expect("a new journal");
+        let mut commands = Vec::new();
+        let mut ends = vec![(0, Vec::new()), (HEADER, Vec::new())];
+        for roll in rolls {
+            let report = house.roll(roll, &mut book_for(roll)).expect("kept");
+            commands.extend(&roll[..report.read]);
+            let length = fs::metadata(&path).expect("a journal").len() as usize;
+            let grown = length - ends[ends.len() - 1].0;
+            assert_eq!(grown, if report.read > 0 { report.read + AROUND } else { 0 });
+            ends.push((length, commands.clone()));
         }
-        end += size;
+        Journal { bytes: fs::read(&path).expect("a journal"), ends }
     }
-    end
+
+    /// The last end within so many bytes, and the commands up to it.
+    fn whole_within(&self, bytes: usize) -> &(usize, Vec<u8>) {
+        self.ends.iter().rev().find(|(end, _)| *end <= bytes).expect("0 is an end")
+    }
+
+    fn commands(&self) -> &[u8] {
+        &self.ends[self.ends.len() - 1].1
+    }
 }
 
 /// Till, pools and live list are those of a reference house that has read these
-/// bytes.
-fn stands_like(lounge: &Lounge, bytes: &[u8]) {
+/// commands.
+fn stands_like(lounge: &Lounge, commands: &[u8]) {
     let mut house = House::fresh();
-    run_roll(&mut house, bytes, &mut book_for(bytes));
+    run_roll(&mut house, commands, &mut book_for(commands));
     assert_eq!(Pair::of(lounge.clone(), house).compare(), Ok(()));
 }
 
 /// A crash that leaves the first bytes of a journal; then the rest is given again.
-fn crash_and_go_on(name: &str, journal: &[u8], left: usize) {
+fn crash_and_go_on(name: &str, journal: &Journal, left: usize) {
     let path = place(name);
-    fs::write(&path, &journal[..left]).expect("what the crash has left");
+    fs::write(&path, &journal.bytes[..left]).expect("what the crash has left");
+    let (end, answered) = journal.whole_within(left);
+    let told = replay(&path, |_, _| ()).expect("a journal cut off is no damage");
+    assert_eq!((told.whole, told.torn), (*end as u64, (left - end) as u64));
+    stands_like(&told.lounge, answered);
+
     let mut house = JournaledLounge::open(&path).expect("a journal cut off is no damage");
-    let whole = whole_commands(&journal[..left]);
-    assert_eq!(fs::read(&path).expect("a journal"), journal[..whole], "{left} bytes left");
-    stands_like(house.lounge(), &journal[..whole]);
+    let kept = fs::read(&path).expect("a journal");
+    assert_eq!(kept, journal.bytes[..(*end).max(HEADER)], "{left} bytes left");
+    stands_like(house.lounge(), answered);
 
     let mut steady = Lounge::fresh();
-    steady.roll(&journal[..whole], &mut book_for(journal));
-    let rest = &journal[whole..];
+    steady.roll(answered, &mut book_for(answered));
+    let rest = &journal.commands()[answered.len()..];
     let (mut book, mut steady_book) = (book_for(rest), book_for(rest));
-    let report = house.roll(rest, &mut book).expect("written");
+    let report = house.roll(rest, &mut book).expect("kept");
     assert_eq!(report, steady.roll(rest, &mut steady_book));
     assert!(book == steady_book, "{left} bytes left: the answers differ");
-    stands_like(house.lounge(), journal);
-    assert_eq!(fs::read(&path).expect("a journal"), journal);
 
     // Another crash, between two rolls.
     drop(house);
     let again = JournaledLounge::open(&path).expect("a whole journal");
-    stands_like(again.lounge(), journal);
+    stands_like(again.lounge(), journal.commands());
 }
 
-/// Crashes at both ends, about the first commands, and anywhere: most of these
-/// places are within a command.
+/// Crashes at both ends, about the first appends, and anywhere: most of these
+/// places are within an append.
 #[test]
 fn crashes_everywhere() {
     let mut random = Random::new(0xC4A5);
     let mut within = 0;
     for seed in [1998, 2026] {
-        let journal = journal_of("sitting", &sitting(seed));
-        let end = journal.len();
-        let mut places = vec![0, 1, 2, 3, 4, end / 2, end - 1, end];
+        let journal = Journal::of("sitting", &sitting(seed));
+        let end = journal.bytes.len();
+        let mut places =
+            vec![0, 1, HEADER - 1, HEADER, HEADER + 1, HEADER + 4, end / 2, end - 1, end];
         places.extend((0..24).map(|_| random.below(end as u64) as usize));
         for left in places {
             crash_and_go_on("crashed", &journal, left);
-            within += usize::from(whole_commands(&journal[..left]) < left);
+            within += usize::from(journal.whole_within(left).0 < left);
         }
     }
-    assert!(within >= 30, "{within} crashes within a command");
+    assert!(within >= 30, "{within} crashes within an append");
 }
 
-/// Every byte of one sale, the longest command, as the last to be written.
-#[test]
-fn crashes_within_a_sale() {
-    let sale = reference::Command::sell(0, 5, 200, &[&[1, 2, 3]], 1).encode();
-    let journal = [vec![1, 0, 1], sale.clone(), vec![4, 1], sale, vec![4, 2]].concat();
-    for left in 0..=journal.len() {
-        crash_and_go_on("one sale", &journal, left);
-    }
-}
-
-/// A byte that no command has is no crash's doing: the journal is left as it is.
+/// A byte that was changed: the journal is left as it is.
 #[test]
 fn a_damaged_journal_is_not_replayed() {
     let path = place("damaged");
-    let damaged = [1, 0, 1, 4, 7, 0, 4, 8];
-    fs::write(&path, damaged).expect("written");
-    let error = JournaledLounge::open(&path).expect_err("an unknown byte");
-    assert_eq!((error.kind(), error.to_string().as_str()), (ErrorKind::InvalidData, "byte 5"));
-    assert_eq!(fs::read(&path).expect("a journal"), damaged);
-}
-
-/// The README shows the code that is tested here.
-#[test]
-fn the_readme_shows_this_code() {
-    const README: &str = include_str!("../../../README.md");
-    const CODE: &str = include_str!("../src/journal.rs");
-    let (_, after) = README.split_once("```rust\n").expect("code in the README");
-    let (shown, _) = after.split_once("```").expect("its end");
-    assert!(CODE.contains(shown), "{shown}");
+    let mut journal = Journal::of("undamaged", &sitting(7));
+    let (third, _) = journal.ends[3];
+    journal.bytes[third + 40] ^= 0x10;
+    fs::write(&path, &journal.bytes).expect("written");
+    let error = JournaledLounge::open(&path).expect_err("damaged");
+    let message = format!("byte {third}: damaged: an append differs from its checksum");
+    assert_eq!(error.to_string(), message);
+    assert_eq!(fs::read(&path).expect("a journal"), journal.bytes);
 }

@@ -3,17 +3,17 @@
 
 mod side_by_side;
 
-use host::Lounge;
 use reference::command::{BALL, SELL};
 use reference::roll::ANSWER_BYTES;
 use reference::{Command, House};
 use rolls::{FarGames, RollWriter};
 use side_by_side::Pair;
+use wulipday::{Lounge, Stop};
 
 /// Runs a roll that must be read whole.
 fn walk(lounge: &mut Lounge, roll: &[u8], book: &mut [u8]) {
     let report = lounge.roll(roll, book);
-    assert_eq!((report.stop, report.read), (0, roll.len()));
+    assert_eq!((report.stop, report.read), (Stop::End, roll.len()));
 }
 
 /// Two hundred million balls, then the last hundred games: codes 17 and 26.

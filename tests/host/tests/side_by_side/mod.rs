@@ -7,13 +7,13 @@
 pub mod edges;
 pub mod lucky;
 
-use host::{Lounge, Report};
 use reference::command::{length, BALL};
 use reference::roll::{ANSWER_BYTES, STOP_BOOK_FULL};
 use reference::till::FIGURES;
 use reference::{run_roll, Cents, Flaw, House};
 use rolls::Coverage;
 use std::fmt::Debug;
+use wulipday::{Lounge, Refusal, Report, Stop};
 
 /// What the two do not agree on.
 pub type Difference = String;
@@ -77,7 +77,7 @@ impl Pair {
         let mut reference_book = proved_book.clone();
         let proved = self.lounge.roll(roll, &mut proved_book);
         let reference = run_roll(&mut self.house, roll, &mut reference_book);
-        same("stop", proved.stop, reference.stop)?;
+        same("stop", proved.stop.number(), reference.stop)?;
         same("bytes read", proved.read, reference.read)?;
         same("answers", proved.answers, reference.answers)?;
         let (records, beyond) = proved_book.split_at(proved.answers * ANSWER_BYTES);
@@ -87,10 +87,10 @@ impl Pair {
         }
         same("book beyond its answers", beyond, &vec![BLANK; beyond.len()])?;
         self.counts.coverage.count_book(records);
-        self.counts.coverage.count_stop(proved.stop);
+        self.counts.coverage.count_stop(proved.stop.number());
         self.counts.commands += proved.answers as u64;
         let code = records.chunks(ANSWER_BYTES).last().map_or(0, |record| record[1]);
-        Ok(Reading { stop: proved.stop, read: proved.read, code })
+        Ok(Reading { stop: proved.stop.number(), read: proved.read, code })
     }
 
     /// Reads a roll to its end through a book that is emptied whenever it is
@@ -130,7 +130,7 @@ impl Pair {
             let proved = self.give_first(unread).map_err(at)?;
             self.compare().map_err(at)?;
             unread = &unread[proved.read..];
-            if proved.stop != STOP_BOOK_FULL {
+            if proved.stop != Stop::BookFull {
                 break;
             }
         }
@@ -146,7 +146,7 @@ impl Pair {
         let mut book = answer;
         let proved = self.lounge.command(bytes, &mut answer);
         let reference = run_roll(&mut self.house, bytes, &mut book);
-        same("stop", proved.stop, reference.stop)?;
+        same("stop", proved.stop.number(), reference.stop)?;
         same("bytes read", proved.read, reference.read)?;
         same("answers", proved.answers, reference.answers)?;
         same("answer", answer, book)?;
@@ -154,7 +154,7 @@ impl Pair {
             return Err("what was not carried out left a trace".into());
         }
         self.counts.coverage.count_book(&answer[..proved.answers * ANSWER_BYTES]);
-        self.counts.coverage.count_stop(proved.stop);
+        self.counts.coverage.count_stop(proved.stop.number());
         self.counts.commands += proved.answers as u64;
         Ok(proved)
     }
@@ -180,7 +180,7 @@ impl Pair {
     /// Till, pools and live list.
     pub fn compare(&mut self) -> Result<(), Difference> {
         self.counts.tills += 1;
-        let figures = figures(&self.lounge.till()).into_iter().zip(self.house.till());
+        let figures = self.lounge.till().figures().into_iter().zip(self.house.till());
         for (name, (proved, reference)) in FIGURES.iter().zip(figures) {
             same(name, proved, reference)?;
         }
@@ -208,7 +208,7 @@ impl Pair {
         }
         if bytes > 0 {
             let mut short = vec![BLANK; bytes - 1];
-            same("short live list", self.lounge.live_list(&mut short), Err(30))?;
+            same("short live list", self.lounge.live_list(&mut short), Err(Refusal::ShortBuffer))?;
             same("short buffer", &short, &vec![BLANK; bytes - 1])?;
         }
         Ok(())
@@ -228,25 +228,7 @@ fn whole_command(roll: &[u8]) -> Option<usize> {
     (size <= roll.len()).then_some(size)
 }
 
-pub fn figures(till: &host::Till) -> [Cents; 9] {
-    let retained = Cents::from(till.retained);
-    let unsigned = [
-        till.taken,
-        till.seeds,
-        till.paid,
-        till.refunded,
-        till.owed,
-        till.held,
-        till.unclaimed,
-        till.pooled,
-        0,
-    ];
-    let mut figures = unsigned.map(Cents::from);
-    figures[8] = if till.negative { -retained } else { retained };
-    figures
-}
-
-pub fn jackpot(pools: &host::Jackpot) -> [Cents; 4] {
+pub fn jackpot(pools: &wulipday::Jackpot) -> [Cents; 4] {
     [pools.primary, pools.secondary, pools.reimbursement, pools.debt].map(Cents::from)
 }
 

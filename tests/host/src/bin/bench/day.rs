@@ -16,17 +16,32 @@ pub fn case() -> Case {
     day(&mut writer, &mut random);
     let roll = writer.finish();
     let (before, measured) = (roll[..at].to_vec(), roll[at..].to_vec());
-    let commands = count_commands(&measured);
+    let commands = commands_of(&measured).len();
     let name = format!("a day's roll of {commands} commands");
     Case { name, before, measured, commands, code: None, shares: 1, houses: 1 }
 }
 
-fn count_commands(roll: &[u8]) -> usize {
-    let mut at = 0;
-    let mut commands = 0;
-    while at < roll.len() {
-        at += length(roll[at]).expect("a whole roll");
-        commands += 1;
+/// The commands of so many days, one after another.
+pub fn days(count: u16) -> Vec<Vec<u8>> {
+    let mut random = Random::new(1998);
+    let mut writer = RollWriter::new();
+    for day in 1..=count {
+        writer.open(day);
+        writer.expire();
+        for _game in 0..GAMES {
+            game(&mut writer, &mut random);
+        }
+    }
+    commands_of(&writer.finish())
+}
+
+fn commands_of(roll: &[u8]) -> Vec<Vec<u8>> {
+    let mut unread = roll;
+    let mut commands = Vec::new();
+    while !unread.is_empty() {
+        let (command, rest) = unread.split_at(length(unread[0]).expect("a whole roll"));
+        commands.push(command.to_vec());
+        unread = rest;
     }
     commands
 }

@@ -41,6 +41,19 @@ fn balls(live: u32) -> Case {
     Case::repeated(&name, writer.finish(), 0, 19, |index| Command::Ball { number: index as u8 + 1 })
 }
 
+/// One Expire for 200 winners who did not come.
+pub fn expiry() -> Case {
+    let mut writer = RollWriter::opened();
+    sell(&mut writer, 200);
+    writer.balls(&twenty());
+    writer.open(367);
+    let before = writer.length();
+    assert_eq!(writer.expire().number, 200);
+    let mut roll = writer.finish();
+    roll.truncate(before);
+    Case::repeated("expire, 200 tickets", roll, 0, 1, |_| Command::Expire)
+}
+
 fn sell(writer: &mut RollWriter, tickets: u32) {
     for _ticket in 0..tickets {
         writer.straight(0, 1, 100, &[1]);

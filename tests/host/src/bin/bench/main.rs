@@ -5,11 +5,15 @@
 //! first. Bringing a house to where the measured roll begins is outside the
 //! measured time. The two take turns, so that what else the machine does meets
 //! both.
+//!
+//! With the argument `journal`: how many commands a second a journal keeps, with a
+//! sync for each roll, and how many a replay runs.
 
 mod case;
 mod commands;
 mod day;
 mod growth;
+mod journal;
 mod settlement;
 mod timing;
 
@@ -17,6 +21,9 @@ use case::Case;
 use timing::{measure, SAMPLES};
 
 fn main() {
+    if std::env::args().nth(1).is_some_and(|argument| argument == "journal") {
+        return journal::print();
+    }
     let cores = std::thread::available_parallelism().map_or(1, usize::from);
     println!("{cores} cores, medians of {SAMPLES} samples, ratio = proved / reference");
     println!();
@@ -34,6 +41,7 @@ fn cases() -> Vec<Case> {
     let mut cases = commands::cases();
     cases.extend(growth::cases());
     cases.extend(settlement::cases());
+    cases.push(growth::expiry());
     cases.push(day::case());
     cases
 }

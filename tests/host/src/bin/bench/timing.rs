@@ -1,10 +1,10 @@
 //! Runs the cases on both sides by turns.
 
 use crate::case::Case;
-use host::Lounge;
 use reference::roll::ANSWER_BYTES;
 use reference::{run_roll, House};
 use std::time::Instant;
+use wulipday::Lounge;
 
 pub const SAMPLES: usize = 51;
 

@@ -4,7 +4,7 @@
 use super::{Counters, House, Jackpot, Listed, Pools, Report, Till, ANSWER_BYTES, MARKS, WORDS};
 use std::mem::{offset_of, size_of};
 
-const LAYOUT: &str = include_str!("../../../c/layout.c");
+const LAYOUT: &str = include_str!("../../../../tests/c/layout.c");
 const HEADER: &str = include_str!("../../../../include/wulipday.h");
 
 /// The lines of a struct: its size, and the place of each field.

@@ -13,18 +13,29 @@
 //! KIND is `standard`, `jackpot`, `special-one`, `special-two` or a number. What
 //! stands after `#` is a comment. Operands only have to fit their bytes: a roll
 //! may well hold commands that the house refuses.
+//!
+//! ```
+//! use wulipday::words;
+//!
+//! let roll = words::encode("open 1\nballs 7 8   # the first two\n").unwrap();
+//! assert_eq!(roll, [1, 0, 1, 4, 7, 4, 8]);
+//! let bad = words::encode("open 1\nballs 7 x\n").unwrap_err();
+//! assert_eq!(bad.to_string(), "line 2: a ball must be a number from 0 to 255, not \"x\"");
+//! ```
 
-mod words;
+mod operands;
 
-use reference::ways::marks_of;
-use reference::Command;
-use words::Words;
+use crate::{Command, Kind, Sale, NUMBERS};
+use operands::{number_within, Words};
+use std::error::Error;
+use std::fmt;
 
 /// A line of the text, with the commands it stands for.
 #[derive(Clone, Debug, PartialEq, Eq)]
 pub struct Line<'a> {
     /// From 1 on.
     pub number: usize,
+    /// Several where it is a line of balls, none where it is a comment.
     pub commands: Vec<Command>,
     /// What stands after the `#`, if there is one.
     pub comment: Option<&'a str>,
@@ -33,9 +44,19 @@ pub struct Line<'a> {
 /// A line that is no command, and why.
 #[derive(Clone, Debug, PartialEq, Eq)]
 pub struct BadLine {
+    /// From 1 on.
     pub number: usize,
+    /// What is wrong, and what was expected.
     pub reason: String,
 }
+
+impl fmt::Display for BadLine {
+    fn fmt(&self, formatter: &mut fmt::Formatter<'_>) -> fmt::Result {
+        write!(formatter, "line {}: {}", self.number, self.reason)
+    }
+}
+
+impl Error for BadLine {}
 
 /// The roll's bytes.
 pub fn encode(text: &str) -> Result<Vec<u8>, BadLine> {
@@ -68,7 +89,10 @@ fn read_commands(line: &str) -> Result<Vec<Command>, String> {
         "claim" => vec![Command::Claim { ticket: words.number("the ticket")? }],
         "expire" => vec![Command::Expire],
         "transfer" => vec![read_transfer(&mut words)?],
-        other => return Err(format!("there is no command \"{other}\"")),
+        other => {
+            let expected = "open, sell, cancel, balls, claim, expire or transfer";
+            return Err(format!("there is no command \"{other}\": expected {expected}"));
+        }
     };
     words.end()?;
     Ok(commands)
@@ -95,41 +119,41 @@ fn read_sale(words: &mut Words) -> Result<Command, String> {
     words.expect("stake")?;
     let stake = words.number("the stake")?;
     words.expect("groups")?;
-    let groups = read_groups(&words.up_to("types")?)?;
+    let (groups, marks) = read_groups(&words.up_to("types")?)?;
     let types = words.number("the types")?;
-    let slices: Vec<&[u8]> = groups.iter().map(Vec::as_slice).collect();
-    let marks = marks_of(&slices);
-    Ok(Command::Sell { kind, games, stake, groups: groups.len() as u8, types, marks })
+    Ok(Command::Sell(Sale { kind, games, stake, groups, types, marks }))
 }
 
 fn read_kind(words: &mut Words) -> Result<u8, String> {
-    let named = match words.peek() {
-        Some("standard") => 0,
-        Some("jackpot") => 1,
-        Some("special-one") => 2,
-        Some("special-two") => 3,
-        _ => return words.number("the kind"),
-    };
-    words.next();
-    Ok(named)
+    let named =
+        words.peek().and_then(|word| Kind::ALL.into_iter().find(|kind| kind.name() == word));
+    match named {
+        Some(kind) => {
+            words.next();
+            Ok(kind.byte())
+        }
+        None => words.number("the kind"),
+    }
 }
 
-/// Groups stand between slashes, their numbers between commas.
-fn read_groups(text: &str) -> Result<Vec<Vec<u8>>, String> {
-    let groups: Vec<Vec<u8>> = text.split('/').map(read_group).collect::<Result<_, _>>()?;
-    let mut marked = [false; 81];
-    for &number in groups.iter().flatten() {
-        if std::mem::replace(&mut marked[usize::from(number)], true) {
-            return Err(format!("{number} is marked twice"));
+/// How many groups there are, and the marks. Groups stand between slashes, their
+/// numbers between commas.
+fn read_groups(text: &str) -> Result<(u8, [u8; NUMBERS]), String> {
+    let mut marks = [0; NUMBERS];
+    let mut groups = 0u8;
+    for group in text.split('/') {
+        groups = groups.checked_add(1).ok_or("more than 255 groups do not fit a byte")?;
+        for number in read_group(group)? {
+            let mark = &mut marks[usize::from(number) - 1];
+            if std::mem::replace(mark, groups) != 0 {
+                return Err(format!("{number} is marked twice"));
+            }
         }
     }
-    match groups.len() {
-        1..=255 => Ok(groups),
-        many => Err(format!("{many} groups do not fit a byte")),
-    }
+    Ok((groups, marks))
 }
 
 fn read_group(text: &str) -> Result<Vec<u8>, String> {
     let numbers = text.split(',').map(str::trim);
-    numbers.map(|number| words::number_within(number, "a marked number", 1, 80)).collect()
+    numbers.map(|number| number_within(number, "a marked number", 1, NUMBERS as u8)).collect()
 }

@@ -1,10 +1,14 @@
 //! Lines of a roll in words: what each stands for, and what is said of a bad
 //! one.
 
-use encode::{encode, BadLine};
-use reference::Command;
-use std::io::Write;
-use std::process::{Command as Process, Output, Stdio};
+use wulipday::words::{encode, BadLine};
+use wulipday::{Command, Kind, Sale};
+
+/// A sale with these groups, whatever its kind's byte.
+fn sale(kind: u8, games: u8, stake: u32, groups: &[&[u8]], types: u8) -> Command {
+    let blank = Sale { kind, types, ..Sale::new(Kind::Standard, games, stake) };
+    Command::Sell(groups.iter().fold(blank, |sale, numbers| sale.group(numbers)))
+}
 
 #[test]
 fn every_command() {
@@ -13,24 +17,18 @@ fn every_command() {
         ("open 65535", vec![Command::Open { day: 65_535 }]),
         (
             "sell standard games 5 stake 200 groups 1,2,3 / 4,5 types 1",
-            vec![Command::sell(0, 5, 200, &[&[1, 2, 3], pair], 1)],
+            vec![sale(0, 5, 200, &[&[1, 2, 3], pair], 1)],
         ),
         (
             "sell 255 games 255 stake 4294967295 groups 80 types 255",
-            vec![Command::sell(255, 255, u32::MAX, &[&[80]], 255)],
+            vec![sale(255, 255, u32::MAX, &[&[80]], 255)],
         ),
         (
             "sell jackpot games 1 stake 1 groups 1, 2 /3 types 2 # two groups",
-            vec![Command::sell(1, 1, 1, &[&[1, 2], &[3]], 2)],
+            vec![sale(1, 1, 1, &[&[1, 2], &[3]], 2)],
         ),
-        (
-            "sell special-one games 1 stake 1 groups 1 types 0",
-            vec![Command::sell(2, 1, 1, &[&[1]], 0)],
-        ),
-        (
-            "sell special-two games 1 stake 1 groups 1 types 0",
-            vec![Command::sell(3, 1, 1, &[&[1]], 0)],
-        ),
+        ("sell special-one games 1 stake 1 groups 1 types 0", vec![sale(2, 1, 1, &[&[1]], 0)]),
+        ("sell special-two games 1 stake 1 groups 1 types 0", vec![sale(3, 1, 1, &[&[1]], 0)]),
         ("  cancel 7", vec![Command::Cancel { ticket: 7 }]),
         ("balls 80 0", vec![Command::Ball { number: 80 }, Command::Ball { number: 0 }]),
         ("claim 4294967295#", vec![Command::Claim { ticket: u32::MAX }]),
@@ -49,7 +47,10 @@ fn every_command() {
 #[test]
 fn bad_lines_are_named() {
     let rows = [
-        ("opn 1", "there is no command \"opn\""),
+        (
+            "opn 1",
+            "there is no command \"opn\": expected open, sell, cancel, balls, claim, expire or transfer",
+        ),
         ("open", "a number is missing: the day"),
         ("open 65536", "the day must be a number from 0 to 65535, not \"65536\""),
         ("open +1", "the day must be a number from 0 to 65535, not \"+1\""),
@@ -74,27 +75,4 @@ fn bad_lines_are_named() {
         let text = format!("open 1\n\n{line}\nopen 2\n");
         assert_eq!(encode(&text), Err(BadLine { number: 3, reason: reason.into() }), "{line}");
     }
-}
-
-fn run(text: &str) -> Output {
-    let mut process = Process::new(env!("CARGO_BIN_EXE_encode"))
-        .stdin(Stdio::piped())
-        .stdout(Stdio::piped())
-        .stderr(Stdio::piped())
-        .spawn()
-        .expect("the program starts");
-    let mut input = process.stdin.take().expect("its input is ours");
-    input.write_all(text.as_bytes()).expect("a short text is taken");
-    drop(input);
-    process.wait_with_output().expect("the program ends")
-}
-
-#[test]
-fn the_program_writes_bytes_or_says_what_is_wrong() {
-    let good = run("open 258\nexpire\n");
-    assert_eq!((good.status.code(), good.stdout), (Some(0), vec![1, 1, 2, 6]));
-    let bad = run("open 1\nballs 1 x\n");
-    let message = "standard input:2: a ball must be a number from 0 to 255, not \"x\"\n";
-    assert_eq!(String::from_utf8(bad.stderr).as_deref(), Ok(message));
-    assert_eq!((bad.status.code(), bad.stdout), (Some(1), vec![]));
 }

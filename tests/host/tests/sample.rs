@@ -1,11 +1,11 @@
 //! The sample roll: its bytes, what the ledger prints for it, the answers that
 //! its comments give, and all that it is there to show.
 
-use encode::{encode, read_lines, Line};
 use reference::command::{BALL, CANCEL, CLAIM, EXPIRE, OPEN, SELL, TRANSFER};
 use reference::settlement::Settlement;
 use reference::{ledger, Answer, Command, House};
 use rolls::coverage::CODES;
+use wulipday::words::{encode, read_lines, Line};
 
 const SAMPLE: &str = include_str!("../../../samples/evening.txt");
 const ROLL: &[u8] = include_bytes!("../../../crates/ledger/stdin");
@@ -54,6 +54,7 @@ struct Given {
 fn run() -> Vec<Given> {
     let mut house = House::fresh();
     let commands = lines().into_iter().flat_map(|line| line.commands);
+    let commands = commands.map(|command| Command::decode(&command.encode()));
     let give = |command: Command| {
         let drawing = house.is_drawing();
         let game = house.game();
