@@ -80,21 +80,8 @@ fn add_ball(house: House, number: u8) -> Outcome
     accepted(next, drawn as u32, 0)
 }
 
-// A ball that is not refused.
-fn draw_ball(house: House, rows: &mut [u64; 3200], marks: &mut [u8; 16000], number: u8) -> Outcome
-    requires reached { ⌜ Reached (view house (now rows) (now marks)) ⌝ }
-    requires accepted { ⌜ codeOf (view house (now rows) (now marks)) (ball number) ≡ 0 ⌝ }
-    ensures { λ r. ⌜ Carried house (now (rows .entry)) (now (marks .entry)) (ball number) (r .house) (now (rows .exit)) (now (marks .exit)) (r .answer) ⌝ }
-{
-    let drawn = house.drawn;
-    if drawn < 19 {
-        return add_ball(house, number);
-    }
-    settle_game(house, rows, marks, number)
-}
-
-// An accepted ball's outcome takes the place of the refusal's. With a return for each, the balls would be copied from either of two places, and the
-// compiler then keeps the whole house in memory from command to command.
+// The outcome of an accepted ball takes the place of a refusal's. With a return for each, the balls would be copied from either of two places, and
+// the compiler would keep the whole house in memory from command to command.
 pub fn enter_ball(
     house: House,
     rows: &mut [u64; 3200],
@@ -105,9 +92,14 @@ pub fn enter_ball(
     ensures { λ r. ⌜ Carried house (now (rows .entry)) (now (marks .entry)) (ball number) (r .house) (now (rows .exit)) (now (marks .exit)) (r .answer) ⌝ }
 {
     let code = ball_code(house, number);
+    let drawn = house.drawn;
     let mut outcome = refused(house, code);
     if code == 0 {
-        outcome = draw_ball(house, rows, marks, number);
+        if drawn < 19 {
+            outcome = add_ball(house, number);
+        } else {
+            outcome = settle_game(house, rows, marks, number);
+        }
     }
     outcome
 }
