@@ -80,6 +80,8 @@ fn add_ball(house: House, number: u8) -> Outcome
     accepted(next, drawn as u32, 0)
 }
 
+// The outcome of an accepted ball takes the place of a refusal's. With a return for each, the balls would be copied from either of two places, and
+// the compiler would keep the whole house in memory from command to command.
 pub fn enter_ball(
     house: House,
     rows: &mut [u64; 3200],
@@ -90,12 +92,14 @@ pub fn enter_ball(
     ensures { λ r. ⌜ Carried house (now (rows .entry)) (now (marks .entry)) (ball number) (r .house) (now (rows .exit)) (now (marks .exit)) (r .answer) ⌝ }
 {
     let code = ball_code(house, number);
-    if code != 0 {
-        return refused(house, code);
-    }
     let drawn = house.drawn;
-    if drawn < 19 {
-        return add_ball(house, number);
+    let mut outcome = refused(house, code);
+    if code == 0 {
+        if drawn < 19 {
+            outcome = add_ball(house, number);
+        } else {
+            outcome = settle_game(house, rows, marks, number);
+        }
     }
-    settle_game(house, rows, marks, number)
+    outcome
 }
