@@ -1,23 +1,19 @@
 -- Laws on the ways of a ticket: lengths and choices as sums; a sum over the masks as the walk that takes or leaves each group computes it,
 -- for any figure and every number of groups; and the figures that such a walk carries.
-use Prim.Native.Nat.{ℕ, zero, suc, _+_, _*_, _-_, _/_, _%_, _^_, _≤_, _<_}
+use Prim.Native.Nat.{ℕ, zero, suc, _+_, _*_, _-_, _/_, _^_, _≤_, _<_}
 use mathlib.Core.Path.{_≡_, refl, sym, ap, ap₂, _∙_, subst}
-use mathlib.Core.Bool.{Bool, true, false, cond, _&&_}
+use mathlib.Core.Bool.{Bool, true, false, cond}
 use mathlib.Core.List.{List, [], _∷_, _++_, map, map-append}
-use native.Mathlib.Nat.{pow-suc, mul-one, one-mul, zero-mul, mul-zero, zero-add, add-zero, add-assoc, add-mul, mul-assoc, mul-right-comm, mul-add-mod-self-right, mul-add-div-right, mul-mod-left, mul-div-cancel, zero-lt-suc, pos-of-ne-zero, lt-of-lt-of-le, le-trans, mul-le-mul-left, sub-le}
+use native.Mathlib.Nat.{pow-suc, mul-one, one-mul, zero-mul, zero-add, add-zero, add-assoc, add-mul, mul-assoc, mul-right-comm, mul-add-mod-self-right, mul-add-div-right, mul-mod-left, mul-div-cancel, zero-lt-suc, pos-of-ne-zero, lt-of-lt-of-le, le-trans, mul-le-mul-left, sub-le}
 use native.Mathlib.Numerals.{add-one}
 use native.Mathlib.Omega.{arith}
-use lib.Dec.{leb, eqb, eqb·suc-suc}
-use lib.ListN.{length, getD, drop, replicate, length-map}
+use lib.ListN.{length, getD, drop, length-map}
 use lib.Count.{ones, onesIn}
 use lib.Pow.{pow-pos, pow-mono, suc-ones}
-use borrow.Author.Tests.{ne-eqb}
-use Rattle.rules.specs.Lists.{sum, below, keep, every}
-use Rattle.rules.specs.Kinds.{within}
-use Rattle.rules.specs.Ways.{nominated, ways, taken, waySizes}
+use Rattle.rules.specs.Lists.{sum, below, keep}
+use Rattle.rules.specs.Ways.{nominated, ways, taken}
 use Rattle.rules.specs.Passes.{sumFrom}
 use Rattle.rules.specs.Bounds.{Place, Carried}
-use Rattle.rules.proofs.KeepLaws.{length-keep-le}
 
 -- ---- lengths and choices as sums
 
