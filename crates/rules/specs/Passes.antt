@@ -1,5 +1,5 @@
--- What the code computes of a ticket in one pass over its ways, before any cut and in a round of it, and the state that it carries from one
--- round to the next. The laws in proofs/ join these to the definitions above: no prize is ever stored.
+-- What the code computes of a ticket in one pass over its ways, at its sale, before any cut and in a round of it, and the state that it
+-- carries from one round to the next. The laws in proofs/ join these to the definitions above: no prize is ever stored.
 use Prim.Native.Nat.{ℕ, zero, suc, _+_, _*_, _-_, _/_, _%_, _^_, _<_, min, max}
 use mathlib.Core.Path.{_≡_}
 use mathlib.Core.Bool.{Bool, cond, not, _&&_}
