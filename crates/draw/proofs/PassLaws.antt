@@ -1,13 +1,13 @@
 -- The prizes of a game ticket by ticket: the major ones of all tickets one behind the other are the rule's list, each is a major prize and small;
 -- and what the tickets are paid by the rule, spread over all live tickets.
-use Prim.Native.Nat.{ℕ, zero, suc, _+_, _*_, _≤_, _<_, _^_}
-use mathlib.Core.Path.{_≡_, refl, sym, ap, ap₂, _∙_, subst}
+use Prim.Native.Nat.{ℕ, zero, suc, _+_, _≤_, _<_, _^_}
+use mathlib.Core.Path.{_≡_, refl, sym, ap, _∙_, subst}
 use mathlib.Core.Bool.{Bool, true, false, cond}
 use mathlib.Core.List.{List, [], _∷_, _++_, map, map-map, append-assoc, append-nil, List·Memᴰ, List·Memᴰ·head, List·Memᴰ·tail}
 use mathlib.Core.Logic.{_⊎_, inl, inr, ⊎-elim}
 use native.Mathlib.Nat.{le-of-suc-le-suc}
 use native.Mathlib.Omega.{arith}
-use lib.ListN.{length, take, drop, getD, length-map, length-append, take-append-drop}
+use lib.ListN.{length, take, drop, getD, length-map, take-append-drop}
 use lib.Seq.{take-suc}
 use borrow.Author.Tests.{leb-true}
 use Rattle.rules.specs.Lists.{sum, keep}
@@ -15,13 +15,12 @@ use Rattle.rules.specs.Checks.{operandCode}
 use Rattle.rules.specs.Prize.{majorFloor, isMajor}
 use Rattle.rules.specs.Cut.{payout}
 use Rattle.rules.specs.Ways.{ways, sizes, hits}
-use Rattle.rules.specs.Settle.{Entry, prizesBy, wayPrizes, fullMatches, majorsOf, prizesOf}
+use Rattle.rules.specs.Settle.{prizesBy, wayPrizes, fullMatches, majorsOf, prizesOf}
 use Rattle.rules.specs.declared.terms.Draw.{Draw}
 use Rattle.rules.specs.declared.terms.Terms.{Terms}
 use Rattle.rules.proofs.PrizeLaws.{prize-bound}
 use Rattle.rules.proofs.WayLaws.{ways-few}
 use Rattle.rules.proofs.CutFloors.{member-kept}
-use Rattle.rules.specs.Price.{chargeLimit}
 use Rattle.rules.specs.Bounds.{Sound}
 use Rattle.house.specs.Tickets.{Ticket, runsIn, termsOf, entryOf}
 use Rattle.house.proofs.Bounded.{terms-sound}

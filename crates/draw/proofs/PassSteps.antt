@@ -36,7 +36,7 @@ use Rattle.house.specs.Commands.{blankTicket}
 use Rattle.house.specs.Balance.{Reached}
 use Rattle.house.specs.View.{view, ticketFrom, ticketIn}
 use Rattle.draw.specs.Settling.{Prized, prizesAt, matchesAt}
-use Rattle.draw.specs.Passing.{liveIn, prizesBelow, sureCents, allMajors, Sold, SoldAll, Narrow, FoundAt, Tables, FoundAll, Cutting, Raised}
+use Rattle.draw.specs.Passing.{liveIn, prizesBelow, sureCents, allMajors, Sold, SoldAll, Narrow, FoundAt, FoundAll, Cutting, Raised}
 use Rattle.house.specs.declared.state.House.{House}
 use Rattle.house.specs.declared.rows.Row.{Row}
 use Rattle.house.proofs.Ledger.{All, Kept}

@@ -9,7 +9,7 @@ use native.Mathlib.Omega.{arith}
 use lib.Dec.{leb, eqb}
 use lib.ListN.{length, getD, take, drop, drop-of-length-le}
 use lib.Seq.{drop-cons}
-use borrow.Author.Tests.{eq-eqb, ne-eqb, leb-true, leb-false, eqb-true}
+use borrow.Author.Tests.{eq-eqb, ne-eqb, leb-true, leb-false}
 use Rattle.rules.specs.Lists.{every}
 use Rattle.rules.specs.Ways.{sizes, sizeWord}
 use Rattle.rules.specs.Checks.{Operands, firstMet, wayCount, chargeOf, jackpotOf, marksFit, operandCode, quoteOf}
@@ -39,10 +39,6 @@ small-quotient t n some = go (leb n t) refl
         let whole : 1 * n ≤ t = omega (arith, leb-true n t e, one-mul n) in
         let quotient : 1 ≤ t / n = le-div-iff-mul-le some .1 whole in
         ne-eqb (t / n) 0 (λ q. omega arith)
-
-and-left : (a b : Bool) → a && b ≡ true → a ≡ true
-and-left true b e = refl
-and-left false b e = e
 
 and-right : (a b : Bool) → a && b ≡ true → b ≡ true
 and-right true b e = e

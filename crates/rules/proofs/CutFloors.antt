@@ -1,13 +1,13 @@
 -- "none below $200": no major prize is paid less than the floor, and where there are 250 or more each is paid exactly the floor, cut or not.
 -- For the second: nobody joins F any more, so that B + p × size of F ≤ 250 × p for each p outside F. Summed over them, 250 prizes at the most
 -- can share; with 250 the sums are equal, and so each of the inequalities is an equation. A member of ps is a `List·Memᴰ p ps`.
-use mathlib.Core.Path.{_≡_, refl, sym, ap, _∙_, subst}
+use mathlib.Core.Path.{_≡_, refl, sym, ap, _∙_}
 use mathlib.Core.Bool.{Bool, true, false, cond, not, false≢true}
 use mathlib.Core.List.{List, [], _∷_, map, List·Memᴰ, List·Memᴰ·head, List·Memᴰ·tail}
 use Prim.Native.Nat.{ℕ, suc, _+_, _*_, _-_, _/_, _≤_, _<_}
-use native.Mathlib.Nat.{add-mul, mul-add, mul-comm, mul-left-comm, mul-zero, mul-one, mul-div-cancel, suc-mul, le-div-iff-mul-le, mul-le-mul-right, le-antisymm}
+use native.Mathlib.Nat.{add-mul, mul-add, mul-comm, mul-left-comm, mul-zero, mul-div-cancel, suc-mul, le-div-iff-mul-le, mul-le-mul-right, le-antisymm}
 use native.Mathlib.Omega.{arith}
-use lib.Dec.{ltb, leb}
+use lib.Dec.{leb}
 use lib.ListN.{length}
 use borrow.Author.Tests.{ltb-false, le-leb, leb-true, leb-false}
 use Rattle.rules.specs.Lists.{sum, keep}

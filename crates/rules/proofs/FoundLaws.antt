@@ -1,12 +1,12 @@
 -- Laws on the pass over a ticket's ways: what its calls add one after the other is what the ways add together, and room for the whole is room for
 -- each; what it carries to the end is what a way takes of the groups; and over all groups it finds the prizes that the rule names.
-use Prim.Native.Nat.{ℕ, suc, _+_, _*_, _-_, _/_, _%_, _≤_, _<_, _^_, min}
+use Prim.Native.Nat.{ℕ, suc, _+_, _*_, _-_, _/_, _%_, _≤_, _<_, _^_}
 use mathlib.Core.Path.{_≡_, refl, sym, ap, ap₂, _∙_, subst}
 use mathlib.Core.Bool.{Bool, true, false, cond}
 use mathlib.Core.List.{List, [], _∷_, _++_, map, map-map, map-append}
 use native.Mathlib.Nat.{zero-add, add-zero, add-suc, suc-add, mul-comm, mul-add, mul-assoc, mul-le-mul-right, pos-of-ne-zero}
 use native.Mathlib.Omega.{arith}
-use lib.Dec.{eqb, leb}
+use lib.Dec.{eqb}
 use lib.ListN.{length, drop, getD, set, length-append, length-map, length-set, length-drop}
 use lib.Seq.{sets, getD-set-same, getD-set-other, getD-drop}
 use borrow.Author.Tests.{leb-true, leb-false}
@@ -15,10 +15,9 @@ use Rattle.rules.specs.Ways.{ways, taken}
 use Rattle.rules.specs.Prize.{majorFloor, isMajor, prize}
 use Rattle.rules.specs.Settle.{prizesBy, fullBy}
 use Rattle.rules.specs.Passes.{waysFrom}
-use Rattle.rules.specs.Found.{sizeIn, hitsIn, groupSizes, groupHits, Groups, Carries, prizeIn, pairsFrom, sureOf, majorsAmong, Room, Joined, JoinedWays, foundOf, FoundWith}
+use Rattle.rules.specs.Found.{sizeIn, hitsIn, groupSizes, groupHits, Groups, Carries, prizeIn, pairsFrom, sureOf, majorsAmong, Room, Joined, JoinedWays, FoundWith}
 use Rattle.rules.specs.declared.terms.Kind.{Kind}
 use Rattle.rules.specs.declared.terms.Terms.{Terms}
-use Rattle.rules.specs.declared.found.Found.{Found}
 use Rattle.rules.proofs.KeepLaws.{keep-append, length-keep-le, sum-within}
 use Rattle.rules.proofs.WayLaws.{sum-append, keep-map, ways-few, next, taken-none, taken-with, taken-without}
 use Rattle.rules.proofs.WalkLaws.{waysFrom-ways}

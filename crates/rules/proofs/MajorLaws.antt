@@ -1,9 +1,8 @@
 -- The major prizes in a table: a part of the table element by element, as a loop passes it; the figures of a round, which follow the rule; and the
 -- state that its rounds end in, which pays what the rule pays. A member of ps is a `List·Memᴰ p ps`.
 use mathlib.Core.Path.{_≡_, refl, sym, ap, _∙_, subst}
-use mathlib.Core.Bool.{Bool, true, false, cond}
 use mathlib.Core.List.{List, [], _∷_, map, List·Memᴰ, List·Memᴰ·head, List·Memᴰ·tail}
-use Prim.Native.Nat.{ℕ, zero, suc, _+_, _*_, _-_, _/_, _≤_, _<_, _^_}
+use Prim.Native.Nat.{ℕ, zero, suc, _+_, _*_, _-_, _≤_, _<_, _^_}
 use native.Mathlib.Nat.{le-of-suc-le-suc, mul-div-cancel, le-trans, mul-le-mul-right, le-of-lt, zero-add}
 use native.Mathlib.Numerals.{add-one}
 use native.Mathlib.Omega.{arith}
@@ -12,9 +11,8 @@ use lib.ListN.{length, take, drop, getD, length-take, length-drop, drop-of-lengt
 use lib.Seq.{drop-cons, getD-take, getD-drop}
 use borrow.Author.Tests.{lt-ltb, le-ltb, le-leb, lt-leb}
 use Rattle.rules.specs.Lists.{sum, keep}
-use Rattle.rules.specs.Prize.{prizeLimit, majorFloor, isMajor}
-use Rattle.rules.specs.Cut.{payout}
-use Rattle.rules.specs.Rounds.{firstCut, uncut, payUnder, nextBelow, cutBelow, Pays, Listed, PastLimit}
+use Rattle.rules.specs.Prize.{prizeLimit, majorFloor}
+use Rattle.rules.specs.Rounds.{firstCut, uncut, payUnder, nextBelow, cutBelow, Pays, Listed}
 use Rattle.rules.specs.declared.cut.Cut.{Cut}
 use Rattle.rules.proofs.KeepLaws.{length-keep-le, sum-within, sum-keep-split, member-le-sum}
 use Rattle.rules.proofs.CutPayouts.{payout-uncut}

@@ -1,13 +1,13 @@
 -- Laws on the one look that a sale takes at its ways: the ways that leave a group are taken in first and then those that take it, and a test of
 -- every way's size is one of the smallest and of the largest.
-use Prim.Native.Nat.{ℕ, suc, _+_, _≤_, _<_, _^_, min, max}
-use mathlib.Core.Path.{_≡_, refl, sym, ap, ap₂, _∙_, subst}
-use mathlib.Core.Bool.{Bool, true, false, cond, _&&_}
+use Prim.Native.Nat.{ℕ, _+_, _≤_, min, max}
+use mathlib.Core.Path.{_≡_, refl, sym, ap, ap₂, _∙_}
+use mathlib.Core.Bool.{Bool, true, false, _&&_}
 use mathlib.Core.List.{List, [], _∷_, _++_, map}
 use native.Mathlib.Nat.{add-zero, zero-add}
 use native.Mathlib.Omega.{arith}
 use lib.Dec.{leb}
-use lib.ListN.{length, getD, set, length-set, length-append, length-map}
+use lib.ListN.{length, set, length-set, length-append, length-map}
 use lib.Seq.{getD-set-same, getD-set-other}
 use borrow.Author.Tests.{le-leb, lt-leb, leb-true, leb-false}
 use Rattle.rules.specs.Lists.{every}

@@ -1,24 +1,18 @@
--- Laws on the ways of a ticket: lengths and choices as sums; a sum over the masks as the walk that takes or leaves each group computes it,
--- for any figure and every number of groups; and the figures that such a walk carries.
-use Prim.Native.Nat.{ℕ, zero, suc, _+_, _*_, _-_, _/_, _%_, _^_, _≤_, _<_}
-use mathlib.Core.Path.{_≡_, refl, sym, ap, ap₂, _∙_, subst}
-use mathlib.Core.Bool.{Bool, true, false, cond, _&&_}
+-- Laws on the ways of a ticket: how many there are at the most, and the figures that a walk which leaves or takes each group carries.
+use Prim.Native.Nat.{ℕ, zero, suc, _+_, _*_, _-_, _/_, _^_, _≤_, _<_}
+use mathlib.Core.Path.{_≡_, refl, sym, ap, _∙_, subst}
+use mathlib.Core.Bool.{Bool, true, false, cond}
 use mathlib.Core.List.{List, [], _∷_, _++_, map, map-append}
-use native.Mathlib.Nat.{pow-suc, mul-one, one-mul, zero-mul, mul-zero, zero-add, add-zero, add-assoc, add-mul, mul-assoc, mul-right-comm, mul-add-mod-self-right, mul-add-div-right, mul-mod-left, mul-div-cancel, zero-lt-suc, pos-of-ne-zero, lt-of-lt-of-le, le-trans, mul-le-mul-left, sub-le}
-use native.Mathlib.Numerals.{add-one}
+use native.Mathlib.Nat.{pow-suc, one-mul, zero-mul, zero-add, add-zero, add-assoc, add-mul, mul-assoc, mul-right-comm, mul-add-mod-self-right, mul-add-div-right, mul-mod-left, mul-div-cancel, zero-lt-suc, pos-of-ne-zero, lt-of-lt-of-le, sub-le}
 use native.Mathlib.Omega.{arith}
-use lib.Dec.{leb, eqb, eqb·suc-suc}
-use lib.ListN.{length, getD, drop, replicate, length-map}
+use lib.ListN.{length, getD, drop}
 use lib.Count.{ones, onesIn}
 use lib.Pow.{pow-pos, pow-mono, suc-ones}
-use borrow.Author.Tests.{ne-eqb}
-use Rattle.rules.specs.Lists.{sum, below, keep, every}
-use Rattle.rules.specs.Kinds.{within}
-use Rattle.rules.specs.Ways.{nominated, ways, taken, waySizes}
+use Rattle.rules.specs.Lists.{sum, below, keep}
+use Rattle.rules.specs.Ways.{nominated, ways, taken}
 use Rattle.rules.specs.Bounds.{Place, Carried}
-use Rattle.rules.proofs.KeepLaws.{length-keep-le}
 
--- ---- lengths and choices as sums
+-- ---- lengths as sums, and choices
 
 module _ {A : Type 0} where
   pub length-keep : (p : A → Bool) (xs : List A) → length (keep p xs) ≡ sum (map (λ x. cond (p x) 1 0) xs)
@@ -40,7 +34,7 @@ module _ {A B : Type 0} where
       go true ys e = ap (λ l. g x ∷ l) e
       go false ys e = e
 
--- ---- a sum over masks
+-- ---- sums over masks
 
 pub sum-append : (xs ys : List ℕ) → sum (xs ++ ys) ≡ sum xs + sum ys
 unfolding sum

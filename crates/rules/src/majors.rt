@@ -4,7 +4,7 @@ use crate::cut::Cut;
 ghost use mathlib.Core.Path.{_≡_};
 ghost use mathlib.Core.List.{map};
 ghost use Prim.Native.Nat.{_-_};
-ghost use lib.ListN.{length, take, drop};
+ghost use lib.ListN.{take, drop};
 ghost use Rattle.rules.specs.Lists.{sum};
 ghost use Rattle.rules.specs.Prize.{majorFloor};
 ghost use Rattle.rules.specs.Rounds.{payUnder, cutBelow, Pays, Listed, PastLimit, Raisable};

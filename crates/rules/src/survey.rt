@@ -13,7 +13,7 @@ ghost use Rattle.rules.specs.Kinds.{within, sizesFit};
 ghost use Rattle.rules.specs.Ways.{nominated, waySizes};
 ghost use Rattle.rules.specs.Settle.{jackpotBy};
 ghost use Rattle.rules.specs.Bounds.{Grouped, Place, Carried, Bytes};
-ghost use Rattle.rules.specs.Passes.{waysFrom, sizesFrom, noted, surveyFrom, surveyOf, surveyIn, Unfilled};
+ghost use Rattle.rules.specs.Passes.{sizesFrom, noted, surveyFrom, surveyOf, surveyIn, Unfilled};
 ghost use Rattle.rules.specs.declared.terms.Terms.{Terms};
 
 // Of a ticket's ways: how many, and the smallest and the largest number that one selects. With no way, the smallest is 255 and the largest 0.

@@ -1,5 +1,5 @@
 -- `draw::prizes::find_all` meets its contract: each turn adds one ticket's figures to the tables and its major prizes to the list.
-use Prim.Native.Nat.{_+_, _-_}
+use Prim.Native.Nat.{_-_}
 use native.Mathlib.Omega.{arith}
 use borrow.Author.Needs.{needs}
 use Rattle.draw.proofs.PassSteps.{Finding, finding-none, finding-more, finding-all}

@@ -1,6 +1,5 @@
 -- `draw::prizes::find_prizes` meets its contract: 250 major prizes or more are paid what is sure; fewer stand in the table, whose cut pays what the
 -- rule pays, and are raised to that.
-use native.Mathlib.Omega.{arith}
 use Rattle.draw.specs.Passing.{SoldAll, Cutting, prizesBelow}
 use Rattle.draw.proofs.PassSteps.{reached-sold, found-count, many-paid, found-listed, found-cutting, raised-prized}
 use Rattle.draw.proofs.prizes.find_prizes.Statement.{statement}

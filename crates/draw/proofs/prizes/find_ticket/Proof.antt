@@ -1,21 +1,16 @@
 -- `draw::prizes::find_ticket` meets its contract: the row says whether the ticket runs; its words fit the terms, and its word of sizes is that of
 -- its marks.
-use mathlib.Core.Path.{_≡_, sym, ap, ap₂, _∙_, subst}
-use mathlib.Core.List.{List}
-use Prim.Native.Nat.{ℕ}
+use mathlib.Core.Path.{sym, _∙_, subst}
 use native.Mathlib.Omega.{arith}
 use borrow.Author.Needs.{needs}
 use borrow.Author.Tests.{not-true, not-false}
-use Rattle.rules.specs.Bounds.{Sound, Grouping}
-use Rattle.rules.specs.Found.{FoundWith}
-use Rattle.rules.specs.Ways.{sizes, hits}
-use Rattle.rules.specs.declared.terms.Terms.{Terms}
-use Rattle.house.specs.Tickets.{termsOf}
+use Rattle.rules.specs.Bounds.{Sound}
+use Rattle.rules.specs.Ways.{sizes}
 use Rattle.house.specs.View.{marksAt, ticketFrom}
 use Rattle.house.proofs.Bounded.{terms-sound}
 use Rattle.draw.specs.Passing.{Sold, FoundAt}
 use Rattle.house.specs.declared.rows.Row.{Row}
-use Rattle.draw.proofs.PassSteps.{row-narrow, row-grouping, row-sizes, ticket-rests, ticket-runs}
+use Rattle.draw.proofs.PassSteps.{row-narrow, row-grouping, ticket-rests, ticket-runs}
 use Rattle.draw.proofs.prizes.find_ticket.Statement.{statement}
 use Rattle.draw.proofs.prizes.find_ticket.Tie as tie
 

@@ -1,10 +1,10 @@
 -- `draw::prizes::raise_all` meets its contract: each turn raises one ticket's major prizes, which stand in the table behind those of the tickets
 -- before it, and the places ahead stand as they did.
-use Prim.Native.Nat.{ℕ, _+_, _-_, _≤_, _<_}
+use Prim.Native.Nat.{ℕ, _+_, _-_, _<_}
 use mathlib.Core.Path.{_≡_, refl, sym, ap, _∙_}
 use mathlib.Core.List.{List, [], map}
 use native.Mathlib.Omega.{arith}
-use lib.ListN.{length, take, getD}
+use lib.ListN.{length, getD}
 use borrow.Author.Needs.{needs}
 use Rattle.rules.specs.Lists.{sum, keep}
 use Rattle.rules.specs.Prize.{isMajor}

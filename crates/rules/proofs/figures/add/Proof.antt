@@ -1,9 +1,8 @@
 -- `rules::figures::add` meets its contract: each store leaves the other places as they are, and stores no prize.
 use Prim.Native.Nat.{_+_}
-use mathlib.Core.Path.{_≡_, refl, ap, _∙_}
 use native.Mathlib.Omega.{arith}
-use lib.ListN.{getD, set, length-set}
-use lib.Seq.{getD-set-same, getD-set-other}
+use lib.ListN.{getD}
+use lib.Seq.{getD-set-other}
 use borrow.Author.Needs.{needs}
 use Rattle.rules.proofs.FoundLaws.{two-stores}
 use Rattle.rules.proofs.figures.add.Statement.{statement}

@@ -1,5 +1,5 @@
 -- `rules::found::find_way` meets its contract: a minor prize is sure as it is; of a major one the floor is sure, and the prize is stored.
-use mathlib.Core.Path.{_≡_, sym, ap, _∙_, subst}
+use mathlib.Core.Path.{_≡_, sym, _∙_, subst}
 use mathlib.Core.Bool.{true, false}
 use Prim.Native.Nat.{_≤_}
 use native.Mathlib.Omega.{arith}

@@ -1,6 +1,6 @@
 -- `rules::majors::cut_below` meets its contract: the figures so far and those of the prizes still ahead are the whole.
 use mathlib.Core.Logic.{⊎-elim}
-use Prim.Native.Nat.{_+_, _-_, _≤_}
+use Prim.Native.Nat.{_-_, _≤_}
 use native.Mathlib.Omega.{arith}
 use lib.ListN.{length}
 use borrow.Author.Needs.{needs}

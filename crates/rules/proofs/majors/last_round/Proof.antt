@@ -5,7 +5,6 @@ use mathlib.Core.Path.{_≡_, sym, ap, subst, _∙_}
 use native.Mathlib.Omega.{arith}
 use lib.ListN.{length, take}
 use borrow.Author.Needs.{needs}
-use Rattle.rules.specs.Lists.{sum}
 use Rattle.rules.specs.Prize.{prizeLimit}
 use Rattle.rules.specs.Bounds.{Cuttable}
 use Rattle.rules.specs.Rounds.{nextBelow, cutBelow, Listed}

@@ -1,10 +1,9 @@
 -- `rules::marks::group_table` meets its contract. The loop's invariant: each place has its size as at the start and the balls that fell on it.
-use mathlib.Core.Path.{_≡_, sym, ap, _∙_, subst}
-use Prim.Native.Nat.{ℕ, _-_, _<_, _≤_}
+use mathlib.Core.Path.{_≡_, sym, _∙_, subst}
+use Prim.Native.Nat.{_-_, _<_}
 use native.Mathlib.Omega.{arith}
-use lib.ListN.{length, getD, length-map}
+use lib.ListN.{length, length-map}
 use borrow.Author.Needs.{needs}
-use Rattle.rules.specs.Ways.{markOf}
 use Rattle.rules.proofs.MarkLaws.{Drawn, drawn-none, drawn-more, drawn-small, drawn-all, mark-few}
 use Rattle.rules.proofs.marks.group_table.Statement.{statement}
 use Rattle.rules.proofs.marks.group_table.Tie as tie

@@ -1,8 +1,7 @@
 -- `rules::survey::note_mask` meets its contract: a mask whose count of groups is not nominated is no way, and nothing is taken in.
 use mathlib.Core.Path.{_≡_, sym, _∙_, subst}
 use mathlib.Core.Bool.{true, false, cond}
-use mathlib.Core.List.{List, [], _∷_}
-use Prim.Native.Nat.{ℕ}
+use mathlib.Core.List.{[], _∷_}
 use lib.Count.{ones, ones-le}
 use borrow.Author.Tests.{not-true, not-false}
 use Rattle.rules.specs.Ways.{nominated}
