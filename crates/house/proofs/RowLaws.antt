@@ -1,24 +1,24 @@
 -- The lent buffers as lists of tickets: what a row or a ticket's marks written to a buffer make of the list, and what a number, a change and a
 -- removal are in it. A row and its marks are runs of stores, so each law reads them back by index.
 use Prim.Native.Nat.{ℕ, zero, suc, _+_, _-_, _*_, _≤_, _<_, suc-le-suc}
-use mathlib.Core.Path.{_≡_, refl, sym, ap, _∙_, subst, subst⁻¹}
+use mathlib.Core.Path.{_≡_, refl, sym, ap, ap₂, _∙_, subst, subst⁻¹}
 use mathlib.Core.Logic.{⊎-elim}
 use mathlib.Core.Bool.{Bool, true, false, cond, _||_}
 use mathlib.Core.List.{List, [], _∷_, _++_, map, append-assoc}
-use native.Mathlib.Nat.{add-zero, zero-add, suc-add, not-suc-le-zero, le-of-suc-le-suc}
+use native.Mathlib.Nat.{add-zero, zero-add, not-suc-le-zero, le-of-suc-le-suc}
 use native.Mathlib.Numerals.{add-one}
 use native.Mathlib.Omega.{arith}
 use borrow.Author.Tests.{lt-ltb, eq-eqb, ne-eqb, eqb-true}
 use lib.Dec.{lit<, eqb, ltb, leb·suc-suc}
 use lib.ListN.{length, getD, set, take, drop, length-set, length-map, length-take, length-drop}
-use lib.Seq.{sets, sets-eq, length-sets, set-set, getD-set-same, getD-set-other, getD-take, getD-drop, ext-getD, take-set-lt, take-suc-set, length-take-le, take-at, drop-at, take-take, set-split, paste, paste-zero, paste-suc, take-paste, drop-paste}
+use lib.Seq.{sets, sets-eq, length-sets, set-set, getD-set-same, getD-set-other, getD-take, getD-drop, ext-getD, take-set-lt, take-suc-set, length-take-le, take-at, drop-at, set-split}
 use Rattle.rules.specs.Lists.{keep, any}
 use Rattle.house.specs.Tickets.{Ticket, isLive}
 use Rattle.house.specs.Commands.{blankTicket, ticketAt, hasTicket, changed, stillLive}
-use Rattle.house.specs.View.{rowOf, putRow, marksAt, putMarks, ticketFrom, ticketIn, ticketsOf, placeOf, RisingRows, without}
+use Rattle.house.specs.View.{rowOf, putRow, marksAt, putMarks, ticketFrom, ticketIn, ticketsOf, placeOf, RisingRows, without, shifted}
 use Rattle.house.specs.declared.rows.Row.{Row}
 use Rattle.house.proofs.Ledger.{All}
-use Rattle.house.proofs.RowLists.{getD-sets-before, getD-sets-after, getD-sets-at, sets-more, length-table, getD-table, getD-map, equal-or-not, earlier-or-not, drop-take}
+use Rattle.house.proofs.RowLists.{getD-sets-before, getD-sets-after, getD-sets-at, sets-more, length-table, getD-table, getD-map, equal-or-not, earlier-or-not, length-without, without-before, without-behind, length-shifted, shifted-before, shifted-within}
 
 -- ---- the tickets of two buffers
 
@@ -349,53 +349,68 @@ take-set n ts i t h = take-set-lt n ts i t h
 pub take-sold : (n : ℕ) (ts : List Ticket) (t : Ticket) → n < length ts → take (n + 1) (set ts n t) ≡ take n ts ++ (t ∷ [])
 take-sold n ts t h = ap (λ k. take k (set ts n t)) (add-one n) ∙ take-suc-set ts n t h
 
--- ---- a removal: the tickets after a place move down, one a turn
+-- ---- a removal: the rows and the marks of the tickets after a place move down, each in one block
 
--- those from the place up to k have moved
-abbrev pub shifted : ℕ → ℕ → List Ticket → List Ticket
-shifted i k ts = paste ts i (drop (suc i) ts) (k - suc i)
+-- tickets that agree word by word and mark by mark
+ticket-from : (words marks words′ marks′ : List ℕ) → length marks ≡ 16000 → length marks′ ≡ 16000 → (j j′ : ℕ) → j < 200 → j′ < 200
+    → ((k : ℕ) → k < 15 → getD words (j * 16 + k) 0 ≡ getD words′ (j′ * 16 + k) 0)
+    → ((k : ℕ) → k < 80 → getD marks (j * 80 + k) 0 ≡ getD marks′ (j′ * 80 + k) 0)
+    → ticketIn words marks j ≡ ticketIn words′ marks′ j′
+ticket-from words marks words′ marks′ long long′ j j′ h h′ same same′ =
+    let eighty : length (marksAt marks j) ≡ 80 = length-marks-at marks long j h in
+    let eighty′ : length (marksAt marks′ j′) ≡ 80 = length-marks-at marks′ long′ j′ h′ in
+    ap₂ ticketFrom
+    (row-from words words′ (j * 16) (j′ * 16) same)
+    (ext-getD 0 (marksAt marks j) (marksAt marks′ j′) (omega arith)
+    (λ k b.
+    let small : k < 80 = omega arith in
+    sym (mark-at marks j k small) ∙ same′ k small ∙ mark-at marks′ j′ k small))
 
-module _ (i : ℕ) (ts : List Ticket) where
-  pub shifted-none : ts ≡ shifted i (i + 1) ts
-  shifted-none =
-      let none : i + 1 - suc i ≡ 0 = omega arith in
-      paste-zero ts i (drop (suc i) ts) ∙ ap (paste ts i (drop (suc i) ts)) (sym none)
+-- a buffer of w places a ticket, in which the n tickets after the one at a place have moved down
+abbrev closed : ℕ → ℕ → ℕ → List ℕ → List ℕ
+closed w i n l = take (i * w) l ++ shifted w (n * w) (drop (i * w) l)
 
-  shifted-by : (j : ℕ) → i + suc j < length ts
-      → set (paste ts i (drop (suc i) ts) j) (i + j) (getD (paste ts i (drop (suc i) ts) j) (i + j + 1) blankTicket)
-      ≡ paste ts i (drop (suc i) ts) (suc j)
-  shifted-by j h =
-      let rest : length (drop (suc i) ts) ≡ length ts - suc i = length-drop (suc i) ts in
-      let read : getD (paste ts i (drop (suc i) ts) j) (i + j + 1) blankTicket ≡ getD (drop (suc i) ts) j blankTicket =
-      sym (getD-drop (i + j) (paste ts i (drop (suc i) ts) j) 1 blankTicket)
-      ∙ ap (λ l. getD l 1 blankTicket) (drop-paste ts i (drop (suc i) ts) j (omega arith) (omega arith))
-      ∙ getD-drop (i + j) ts 1 blankTicket
-      ∙ ap (λ n. getD ts n blankTicket) (add-one (i + j) ∙ sym (suc-add i j))
-      ∙ sym (getD-drop (suc i) ts j blankTicket) in
-      ap (set (paste ts i (drop (suc i) ts) j) (i + j)) read
-      ∙ paste-suc ts i (drop (suc i) ts) j blankTicket (omega arith) (omega arith)
+module _ (words marks : List ℕ) (long : length words ≡ 3200) (long′ : length marks ≡ 16000) (i n : ℕ) (h : i + n < 200) where
+  closed-long : length (closed 80 i n marks) ≡ 16000
+  closed-long = length-shifted 80 marks (i * 80) (n * 80) (omega arith) ∙ long′
 
-  pub shifted-more : (moved after : List Ticket) (k : ℕ) → moved ≡ shifted i k ts → after ≡ set moved (k - 1) (getD moved k blankTicket) → i < k → k < length ts
-      → after ≡ shifted i (k + 1) ts
-  shifted-more moved after k e stored h b =
-      let to : k - 1 ≡ i + (k - suc i) = omega arith in
-      let source : k ≡ i + (k - suc i) + 1 = omega arith in
-      let next : suc (k - suc i) ≡ k + 1 - suc i = omega arith in
-      stored
-      ∙ ap (λ l. set l (k - 1) (getD l k blankTicket)) e
-      ∙ ap (λ n. set (shifted i k ts) n (getD (shifted i k ts) k blankTicket)) to
-      ∙ ap (λ n. set (shifted i k ts) (i + (k - suc i)) (getD (shifted i k ts) n blankTicket)) source
-      ∙ shifted-by (k - suc i) (omega arith)
-      ∙ ap (paste ts i (drop (suc i) ts)) next
+  closed-before : (j : ℕ) → j < i → ticketIn (closed 16 i n words) (closed 80 i n marks) j ≡ ticketIn words marks j
+  closed-before j b =
+      ticket-from (closed 16 i n words) (closed 80 i n marks) words marks closed-long long′ j j (omega arith) (omega arith)
+      (λ k c. shifted-before 16 words (i * 16) (n * 16) (omega arith) (j * 16 + k) 0 (omega arith))
+      (λ k c. shifted-before 80 marks (i * 80) (n * 80) (omega arith) (j * 80 + k) 0 (omega arith))
 
-  pub shifted-all : (live : ℕ) → i < live → live ≤ length ts → take (live - 1) (shifted i live ts) ≡ without i (take live ts)
-  unfolding without
-  shifted-all live h b =
-      let rest : length (drop (suc i) ts) ≡ length ts - suc i = length-drop (suc i) ts in
-      let before : live - 1 ≡ i + (live - suc i) = omega arith in
-      let whole : live ≡ suc i + (live - suc i) = omega arith in
-      ap (λ n. take n (shifted i live ts)) before
-      ∙ take-paste ts i (drop (suc i) ts) (live - suc i) (omega arith) (omega arith)
-      ∙ ap (λ l. l ++ take (live - suc i) (drop (suc i) ts)) (sym (take-take i live ts (omega arith)))
-      ∙ ap (λ l. take i (take live ts) ++ l)
-      (sym (drop-take (suc i) (live - suc i) ts (omega arith)) ∙ ap (λ n. drop (suc i) (take n ts)) (sym whole))
+  closed-behind : (j : ℕ) → i ≤ j → j < i + n → ticketIn (closed 16 i n words) (closed 80 i n marks) j ≡ ticketIn words marks (suc j)
+  closed-behind j b b′ =
+      ticket-from (closed 16 i n words) (closed 80 i n marks) words marks closed-long long′ j (suc j) (omega arith) (omega arith)
+      (λ k c.
+      let next : j * 16 + k + 16 ≡ suc j * 16 + k = omega arith in
+      shifted-within 16 words (i * 16) (n * 16) (omega arith) (j * 16 + k) 0 (omega arith) (omega arith) ∙ ap (λ m. getD words m 0) next)
+      (λ k c.
+      let next : j * 80 + k + 80 ≡ suc j * 80 + k = omega arith in
+      shifted-within 80 marks (i * 80) (n * 80) (omega arith) (j * 80 + k) 0 (omega arith) (omega arith) ∙ ap (λ m. getD marks m 0) next)
+
+pub tickets-without : (words marks : List ℕ) → length words ≡ 3200 → length marks ≡ 16000 → (i live : ℕ) → i < live → live ≤ 200
+    → take (live - 1) (ticketsOf (closed 16 i (live - i - 1) words) (closed 80 i (live - i - 1) marks)) ≡ without i (take live (ticketsOf words marks))
+tickets-without words marks long long′ i live h few =
+    let n : ℕ = live - i - 1 in
+    let words′ : List ℕ = closed 16 i (live - i - 1) words in
+    let marks′ : List ℕ = closed 80 i (live - i - 1) marks in
+    let tickets : List Ticket = take live (ticketsOf words marks) in
+    let count : length (take live (ticketsOf words marks)) ≡ live = live-length words marks live few in
+    let count′ : length (take (live - 1) (ticketsOf words′ marks′)) ≡ live - 1 = live-length words′ marks′ (live - 1) (omega arith) in
+    let rest : length (without i (take live (ticketsOf words marks))) ≡ length (take live (ticketsOf words marks)) - 1 =
+    length-without i (take live (ticketsOf words marks)) (omega arith) in
+    ext-getD blankTicket (take (live - 1) (ticketsOf words′ marks′)) (without i tickets)
+    (omega arith)
+    (λ j b.
+    let small : j < live - 1 = omega arith in
+    live-at words′ marks′ (live - 1) (omega arith) j small
+    ∙ ⊎-elim
+    (λ l. closed-before words marks long long′ i n (omega arith) j l
+    ∙ sym (live-at words marks live few j (omega arith))
+    ∙ sym (without-before i tickets (omega arith) j blankTicket l))
+    (λ l. closed-behind words marks long long′ i n (omega arith) j l (omega arith)
+    ∙ sym (live-at words marks live few (suc j) (omega arith))
+    ∙ sym (without-behind i tickets (omega arith) j blankTicket l))
+    (earlier-or-not j i))

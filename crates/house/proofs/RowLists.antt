@@ -1,17 +1,20 @@
--- Laws of lists in general that the rows lean on: a run of stores read back, a list built by index, and parts of a list.
-use Prim.Native.Nat.{ℕ, zero, suc, _+_, _≤_, _<_}
+-- Laws of lists in general that the rows lean on: a run of stores read back, a list without an element, a block moved down within a list, and a
+-- list built by index.
+use Prim.Native.Nat.{ℕ, zero, suc, _+_, _-_, _≤_, _<_}
 use mathlib.Core.Path.{_≡_, refl, sym, ap, _∙_, subst}
 use mathlib.Core.Logic.{_⊎_, inl, inr, ⊎-elim}
 use mathlib.Core.Bool.{Bool, true, false}
-use mathlib.Core.List.{List, [], _∷_, _++_, map}
+use mathlib.Core.List.{List, [], _∷_, _++_, map, append-nil}
 use native.Mathlib.Nat.{add-suc, suc-add, add-zero, not-suc-le-zero, le-of-suc-le-suc, eq-or-lt-of-le}
 use native.Mathlib.Numerals.{add-one}
 use native.Mathlib.Omega.{arith}
 use lib.Dec.{eqb, ltb}
 use borrow.Author.Tests.{eqb-true, eqb-false, ltb-true, ltb-false}
-use lib.ListN.{length, getD, set, take, drop, length-set, length-append, length-map, List·getD-append}
-use lib.Seq.{sets, getD-set-same, getD-set-other, take-suc, getD-append-seam, drop-at, take-add, length-take-le}
+use lib.ListN.{length, getD, set, take, drop, length-set, length-append, length-map, length-drop, List·getD-append}
+use lib.Seq.{sets, getD-set-same, getD-set-other, getD-take, getD-drop, take-suc, take-all, drop-cons, drop-length, append-snoc, set-at, getD-append-seam, drop-at, length-take-le}
+use borrow.Rule.Slice.PartMut.{putMid}
 use Rattle.rules.specs.Lists.{below}
+use Rattle.house.specs.View.{without, shifted}
 
 module _ {A : Type 0} where
   -- an index outside the run holds what it held
@@ -52,10 +55,92 @@ module _ {A : Type 0} where
       ∙ ap (sets l i) (sym (take-suc s k d h))
       ∙ ap (λ n. sets l i (take n s)) (sym (add-one k))
 
-  -- the rest of a part is a part of the rest
-  pub drop-take : (n k : ℕ) (l : List A) → n + k ≤ length l → drop n (take (n + k) l) ≡ take k (drop n l)
-  drop-take n k l h =
-      ap (drop n) (take-add n k l) ∙ drop-at (take n l) (take k (drop n l)) n (length-take-le n l (omega arith))
+  -- a list cut at a place, read before and behind it
+  getD-before : (l rest : List A) (at j : ℕ) (d : A) → at ≤ length l → j < at → getD (take at l ++ rest) j d ≡ getD l j d
+  getD-before l rest at j d h b =
+      List·getD-append (take at l) rest d j (omega (arith, length-take-le at l h)) ∙ getD-take at l j d b
+
+  getD-behind : (l rest : List A) (at k : ℕ) (d : A) → at ≤ length l → getD (take at l ++ rest) (at + k) d ≡ getD rest k d
+  getD-behind l rest at k d h =
+      sym (getD-drop at (take at l ++ rest) k d) ∙ ap (λ r. getD r k d) (drop-at (take at l) rest at (length-take-le at l h))
+
+  -- a list without an element
+  module _ (i : ℕ) (l : List A) (h : i < length l) where
+    pub length-without : length (without i l) ≡ length l - 1
+    unfolding without
+    length-without =
+        length-append (take i l) (drop (suc i) l)
+        ∙ omega (arith, length-take-le i l (omega arith), length-drop (suc i) l)
+
+    pub without-before : (j : ℕ) (d : A) → j < i → getD (without i l) j d ≡ getD l j d
+    unfolding without
+    without-before j d b = getD-before l (drop (suc i) l) i j d (omega arith) b
+
+    pub without-behind : (j : ℕ) (d : A) → i ≤ j → getD (without i l) j d ≡ getD l (suc j) d
+    unfolding without
+    without-behind j d b =
+        let place : j ≡ i + (j - i) = omega arith in
+        let next : suc i + (j - i) ≡ suc j = omega arith in
+        ap (λ n. getD (without i l) n d) place
+        ∙ getD-behind l (drop (suc i) l) i (j - i) d (omega arith)
+        ∙ getD-drop (suc i) l (j - i) d
+        ∙ ap (λ n. getD l n d) next
+
+  -- one element more that is w places down
+  pub shifted-more : (w : ℕ) (l : List A) (n : ℕ) (d : A) → n + w < length l
+      → set (shifted w n l) n (getD (shifted w n l) (n + w) d) ≡ shifted w (n + 1) l
+  shifted-more w l n d h =
+      let front : List A = take n (drop w l) in
+      let long : length (drop w l) ≡ length l - w = length-drop w l in
+      let cut : length (take n (drop w l)) ≡ n = length-take-le n (drop w l) (omega arith) in
+      let same : n + w ≡ w + n = omega arith in
+      let read : getD (shifted w n l) (n + w) d ≡ getD (drop w l) n d =
+      sym (getD-drop n (shifted w n l) w d)
+      ∙ ap (λ r. getD r w d) (drop-at front (drop n l) n cut)
+      ∙ getD-drop n l w d
+      ∙ ap (λ k. getD l k d) same
+      ∙ sym (getD-drop w l n d) in
+      ap (set (shifted w n l) n) read
+      ∙ ap (λ r. set (front ++ r) n (getD (drop w l) n d)) (drop-cons l n d (omega arith))
+      ∙ set-at front (getD l n d) (drop (suc n) l) (getD (drop w l) n d) n cut
+      ∙ sym (append-snoc front (getD (drop w l) n d) (drop (suc n) l))
+      ∙ ap (λ r. r ++ drop (suc n) l) (sym (take-suc (drop w l) n d (omega arith)))
+      ∙ ap (λ k. shifted w k l) (sym (add-one n))
+
+  -- a part lent from a place on that comes back shifted
+  pub shifted-part : (w : ℕ) (l part : List A) (at n : ℕ) → at ≤ length l → part ≡ shifted w n (take (length l - at) (drop at l))
+      → putMid at (length l - at) l part ≡ take at l ++ shifted w n (drop at l)
+  shifted-part w l part at n h e =
+      let long : length (drop at l) ≡ length l - at = length-drop at l in
+      let whole : take (length l - at) (drop at l) ≡ drop at l = take-all (length l - at) (drop at l) (omega arith) in
+      let none : drop (length l - at) (drop at l) ≡ [] = ap (λ k. drop k (drop at l)) (sym long) ∙ drop-length (drop at l) in
+      ap (λ r. take at l ++ (part ++ r)) none
+      ∙ ap (λ r. take at l ++ r) (append-nil part ∙ e ∙ ap (shifted w n) whole)
+
+  -- n elements from a place on moved down by w: those before the place stay, those of the block stood w places further on
+  module _ (w : ℕ) (l : List A) (at n : ℕ) (h : at + n + w ≤ length l) where
+    pub length-shifted : length (take at l ++ shifted w n (drop at l)) ≡ length l
+    length-shifted =
+        let rest : length (drop at l) ≡ length l - at = length-drop at l in
+        let later : length (drop w (drop at l)) ≡ length (drop at l) - w = length-drop w (drop at l) in
+        length-append (take at l) (shifted w n (drop at l))
+        ∙ omega (arith, length-take-le at l (omega arith), length-append (take n (drop w (drop at l))) (drop n (drop at l)), length-take-le n (drop w (drop at l)) (omega arith), length-drop n (drop at l))
+
+    pub shifted-before : (j : ℕ) (d : A) → j < at → getD (take at l ++ shifted w n (drop at l)) j d ≡ getD l j d
+    shifted-before j d b = getD-before l (shifted w n (drop at l)) at j d (omega arith) b
+
+    pub shifted-within : (j : ℕ) (d : A) → at ≤ j → j < at + n → getD (take at l ++ shifted w n (drop at l)) j d ≡ getD l (j + w) d
+    shifted-within j d b c =
+        let rest : length (drop at l) ≡ length l - at = length-drop at l in
+        let later : length (drop w (drop at l)) ≡ length (drop at l) - w = length-drop w (drop at l) in
+        let place : j ≡ at + (j - at) = omega arith in
+        let source : at + (w + (j - at)) ≡ j + w = omega arith in
+        ap (λ k. getD (take at l ++ shifted w n (drop at l)) k d) place
+        ∙ getD-behind l (shifted w n (drop at l)) at (j - at) d (omega arith)
+        ∙ getD-before (drop w (drop at l)) (drop n (drop at l)) n (j - at) d (omega arith) (omega arith)
+        ∙ getD-drop w (drop at l) (j - at) d
+        ∙ getD-drop at l (w + (j - at)) d
+        ∙ ap (λ k. getD l k d) source
 
 length-below : (n : ℕ) → length (below n) ≡ n
 unfolding below

@@ -4,10 +4,10 @@ ghost use mathlib.Core.Path.{_≡_};
 ghost use mathlib.Core.List.{List, [], _∷_, _++_};
 ghost use Prim.Native.Nat.{ℕ, _+_, _-_, _*_, _<_, _≤_, max};
 ghost use lib.Dec.{eqb};
-ghost use lib.ListN.{length, take, set, getD};
+ghost use lib.ListN.{length, take, drop, set, getD};
 ghost use lib.Seq.{sets};
 ghost use Rattle.house.specs.Commands.{blankTicket};
-ghost use Rattle.house.specs.View.{rowOf, putRow, marksAt, putMarks, ticketFrom, ticketsOf, placeOf, IsRow, IsLiveRow, MarkedRow, MovesDown, RisingRows, without};
+ghost use Rattle.house.specs.View.{rowOf, putRow, marksAt, putMarks, ticketFrom, ticketsOf, placeOf, IsRow, IsLiveRow, MarkedRow, MovesDown, RisingRows, without, shifted};
 
 // A buffer is as long as its type says: learnt by lending it as a slice.
 pub fn known_words(rows: &[u64; 3200])
@@ -216,16 +216,56 @@ pub fn move_ticket(rows: &mut [u64; 3200], marks: &mut [u8; 16000], from: usize,
     move_marks(marks, from, to);
 }
 
-// The live tickets without the one at a place: those after it move down.
+// The first words become those a row further on. The loop runs from the slice's start, so that the back end makes one block move of it.
+fn shift_words(words: &mut [u64], count: usize)
+    requires { ⌜ count + 16 ≤ length (now words) ⌝ }
+    ensures { λ r. ⌜ now (words .exit) ≡ shifted 16 count (now (words .entry)) ⌝ }
+{
+    let mut k = 0;
+    while k < count {
+        words[k] = words[k + 16];
+        k += 1;
+    }
+}
+
+// The same from a place on.
+fn shift_words_from(words: &mut [u64], at: usize, count: usize)
+    requires { ⌜ at + count + 16 ≤ length (now words) ⌝ }
+    ensures { λ r. ⌜ now (words .exit) ≡ take at (now (words .entry)) ++ shifted 16 count (drop at (now (words .entry))) ⌝ }
+{
+    shift_words(&mut words[at..], count);
+}
+
+// The first marks become those a ticket further on, in one block as the words.
+fn shift_marks(marks: &mut [u8], count: usize)
+    requires { ⌜ count + 80 ≤ length (now marks) ⌝ }
+    ensures { λ r. ⌜ now (marks .exit) ≡ shifted 80 count (now (marks .entry)) ⌝ }
+{
+    let mut k = 0;
+    while k < count {
+        marks[k] = marks[k + 80];
+        k += 1;
+    }
+}
+
+// The same from a place on.
+fn shift_marks_from(marks: &mut [u8], at: usize, count: usize)
+    requires { ⌜ at + count + 80 ≤ length (now marks) ⌝ }
+    ensures { λ r. ⌜ now (marks .exit) ≡ take at (now (marks .entry)) ++ shifted 80 count (drop at (now (marks .entry))) ⌝ }
+{
+    shift_marks(&mut marks[at..], count);
+}
+
+// The live tickets without the one at a place: those after it move down, their rows in one block and their marks in another.
 pub fn remove_ticket(rows: &mut [u64; 3200], marks: &mut [u8; 16000], live: usize, i: usize)
     requires { ⌜ IsLiveRow i live ⌝ }
     ensures { λ r. ⌜ take (live - 1) (ticketsOf (now (rows .exit)) (now (marks .exit))) ≡ without i (take live (ticketsOf (now (rows .entry)) (now (marks .entry)))) ⌝ }
 {
-    let mut k = i + 1;
-    while k < live {
-        move_ticket(rows, marks, k, k - 1);
-        k += 1;
-    }
+    known_words(rows);
+    known_marks(marks);
+    let after = live - i - 1;
+    shift_words_from(rows, i * 16, after * 16);
+    shift_marks_from(marks, i * 80, after * 80);
 }
 
 // Whether a ticket of the games from `first` up to `stop` has none left where the given game is the current one.
