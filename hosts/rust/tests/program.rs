@@ -4,9 +4,18 @@ use std::fs;
 use std::io::Write;
 use std::path::PathBuf;
 use std::process::{Command as Process, Output, Stdio};
+use std::sync::{Mutex, MutexGuard, PoisonError};
 use wulipday::{words, JournaledLounge};
 
 const SAMPLE: &str = concat!(env!("CARGO_MANIFEST_DIR"), "/../../samples/evening.txt");
+
+static TURN: Mutex<()> = Mutex::new(());
+
+/// The tests here take turns: a process that is just being started has the open files of the one that starts it, and with them a
+/// journal's lock, until its own program begins.
+fn turn() -> MutexGuard<'static, ()> {
+    TURN.lock().unwrap_or_else(PoisonError::into_inner)
+}
 
 fn wulipday(arguments: &[&str], input: &[u8]) -> Output {
     let mut process = Process::new(env!("CARGO_BIN_EXE_wulipday"))
@@ -52,6 +61,7 @@ fn text(bytes: Vec<u8>) -> String {
 
 #[test]
 fn encode_writes_bytes_or_says_what_is_wrong() {
+    let _turn = turn();
     assert_eq!(prints(&["encode"], b"open 258\nexpire\n"), [1, 1, 2, 6]);
     assert_eq!(prints(&["encode", "-"], b"open 258\nexpire\n"), [1, 1, 2, 6]);
     let roll = words::encode(&fs::read_to_string(SAMPLE).expect("the sample")).expect("commands");
@@ -97,6 +107,7 @@ pools                   six numbers     eight numbers
 /// in words.
 #[test]
 fn run_says_what_each_command_did() {
+    let _turn = turn();
     let in_words = "expire\nopen 1\nsell jackpot games 2 stake 100 groups 1,2,3,4,5,6 types 1\n\
                     balls 7\ncancel 1\nclaim 1\n";
     let roll = words::encode(in_words).expect("commands");
@@ -116,6 +127,7 @@ fn run_says_what_each_command_did() {
 
 #[test]
 fn run_of_the_sample_says_its_answers() {
+    let _turn = turn();
     let print = text(prints(&["run", SAMPLE], b""));
     let answers = include_str!("../../../crates/ledger/stdout");
     let (answers, till) = answers.split_once("stop 0\n").expect("the end of the roll");
@@ -132,6 +144,7 @@ fn run_of_the_sample_says_its_answers() {
 
 #[test]
 fn run_refuses_what_is_no_roll() {
+    let _turn = turn();
     let unknown = "standard input: byte 3: expected a command, 01 to 07, not 2A";
     refuses(&["run"], &[1, 0, 1, 42], unknown);
     let cut_off = "standard input: byte 3: expected 89 bytes of command 02, not 2";
@@ -142,6 +155,7 @@ fn run_refuses_what_is_no_roll() {
 
 #[test]
 fn replay_says_what_a_journal_tells() {
+    let _turn = turn();
     let path = place("evening.journal");
     let name = path.to_str().expect("text");
     let mut house = JournaledLounge::open(&path).expect("a new journal");
@@ -174,6 +188,7 @@ fn replay_says_what_a_journal_tells() {
 
 #[test]
 fn other_arguments_get_the_usage() {
+    let _turn = turn();
     let usage = prints(&["help"], b"");
     for arguments in [&[][..], &["play"], &["run", "--fast"], &["replay"], &["encode", "a", "b"]] {
         let output = wulipday(arguments, b"");
