@@ -1,6 +1,6 @@
 -- Laws on the pass over a ticket's ways: what its calls add one after the other is what the ways add together, and room for the whole is room for
 -- each; what it carries to the end is what a way takes of the groups; and over all groups it finds the prizes that the rule names.
-use Prim.Native.Nat.{ℕ, suc, _+_, _*_, _-_, _/_, _%_, _≤_, _<_, _^_}
+use Prim.Native.Nat.{ℕ, zero, suc, _+_, _*_, _-_, _/_, _%_, _≤_, _<_, _^_}
 use mathlib.Core.Path.{_≡_, refl, sym, ap, ap₂, _∙_, subst}
 use mathlib.Core.Bool.{Bool, true, false, cond}
 use mathlib.Core.List.{List, [], _∷_, _++_, map, map-map, map-append}
@@ -8,15 +8,18 @@ use native.Mathlib.Nat.{zero-add, add-zero, add-suc, suc-add, mul-comm, mul-add,
 use native.Mathlib.Omega.{arith}
 use lib.Dec.{eqb}
 use lib.ListN.{length, drop, getD, set, length-append, length-map, length-set, length-drop}
-use lib.Seq.{sets, getD-set-same, getD-set-other, getD-drop}
+use lib.Seq.{sets, drop-length, drop-cons, getD-set-same, getD-set-other, getD-drop}
 use borrow.Author.Tests.{leb-true, leb-false}
 use Rattle.rules.specs.Lists.{sum, keep}
+use Rattle.rules.specs.Kinds.{kindOf, kindNumber}
 use Rattle.rules.specs.Ways.{ways, taken}
 use Rattle.rules.specs.Prize.{majorFloor, isMajor, prize}
 use Rattle.rules.specs.Settle.{prizesBy, fullBy}
 use Rattle.rules.specs.Passes.{waysFrom}
-use Rattle.rules.specs.Found.{sizeIn, hitsIn, groupSizes, groupHits, Groups, Carries, prizeIn, pairsFrom, sureOf, majorsAmong, Room, Joined, JoinedWays, FoundWith}
+use Rattle.rules.specs.Found.{sizeIn, hitsIn, groupSizes, groupHits, Groups, Carries, WalkOf, prizeIn, pairsFrom, sureOf, majorsAmong, Room, Joined, JoinedWays, FoundWith}
 use Rattle.rules.specs.declared.terms.Kind.{Kind}
+use Rattle.rules.specs.declared.terms.Kind.the-variants.{Standard, Jackpot, Special}
+use Rattle.rules.specs.declared.terms.Schedule.the-variants.{One, Two}
 use Rattle.rules.specs.declared.terms.Terms.{Terms}
 use Rattle.rules.proofs.KeepLaws.{keep-append, length-keep-le, sum-within}
 use Rattle.rules.proofs.WayLaws.{sum-append, keep-map, ways-few, next, taken-none, taken-with, taken-without}
@@ -158,6 +161,35 @@ room-first xs ys r =
       sure = omega (arith, r .sure, length-append xs ys);
       full = omega (arith, r .full, length-append xs ys);
       majors = omega (arith, r .majors, length-append xs ys);
+    }
+
+-- ---- what the walk is lent
+
+-- the elements of a table from a place on, so many of them
+abbrev pub listed : ℕ → ℕ → List ℕ → List ℕ
+listed zero i table = []
+listed (suc n) i table = getD table i 0 ∷ listed n (suc i) table
+
+listed-drop : (n i : ℕ) (table : List ℕ) → length table ≡ i + n → listed n i table ≡ drop i table
+listed-drop zero i table e = sym (ap (λ k. drop k table) (sym (add-zero i) ∙ sym e) ∙ drop-length table)
+listed-drop (suc n) i table e =
+    ap (λ (l : List ℕ). getD table i 0 ∷ l) (listed-drop n (suc i) table (omega arith)) ∙ sym (drop-cons table i 0 (omega arith))
+
+kind-number : (kind : Kind) → kindOf (kindNumber kind % 256) ≡ kind
+unfolding kindOf
+kind-number Standard = refl
+kind-number Jackpot = refl
+kind-number (Special One) = refl
+kind-number (Special Two) = refl
+
+pub walk-of : (t : Terms) (groups : List ℕ) {number : ℕ} → t .types < 256 → number ≡ kindNumber (t .kind) → Groups groups
+    → WalkOf t groups (t .stake ∷ t .types ∷ number ∷ listed 9 0 groups)
+walk-of t groups byte e g =
+    record {
+      stake = refl;
+      types = omega arith;
+      kind = ap (λ n. kindOf (n % 256)) e ∙ kind-number (t .kind);
+      groups = listed-drop 9 0 groups (g .long);
     }
 
 -- ---- what the walk carries

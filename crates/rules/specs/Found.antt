@@ -8,6 +8,7 @@ use lib.Dec.{eqb}
 use lib.ListN.{length, drop, getD}
 use lib.Seq.{sets}
 use Rattle.rules.specs.Lists.{sum, keep}
+use Rattle.rules.specs.Kinds.{kindOf}
 use Rattle.rules.specs.Ways.{hits, taken}
 use Rattle.rules.specs.Prize.{majorFloor, isMajor, prize}
 use Rattle.rules.specs.Settle.{prizesBy, fullBy}
@@ -56,6 +57,27 @@ pub record GroupsOf (word : ℕ) (draw : Draw) (marks table : List ℕ) : Type 0
 pub record Carries (left mask pair : ℕ) (table : List ℕ) : Type 0 where
   pub added : pair ≡ taken mask (drop (suc left) table)
   pub small : pair ≤ 2 ^ 20 * (8 - left)
+
+-- ---- what the calls of the walk are lent in one table: the stake, the types byte, the number of the kind, and then the table of the groups
+
+abbrev pub stakeIn : List ℕ → ℕ
+stakeIn table = getD table 0 0
+
+abbrev pub typesIn : List ℕ → ℕ
+typesIn table = getD table 1 0 % 256
+
+abbrev pub kindIn : List ℕ → Kind
+kindIn table = kindOf (getD table 2 0 % 256)
+
+abbrev pub groupsIn : List ℕ → List ℕ
+groupsIn table = drop 3 table
+
+-- the table of a ticket, from its terms and the table of its groups
+pub record WalkOf (t : Terms) (these table : List ℕ) : Type 0 where
+  pub stake : stakeIn table ≡ t .stake
+  pub types : typesIn table ≡ t .types
+  pub kind : kindIn table ≡ t .kind
+  pub groups : groupsIn table ≡ these
 
 -- ---- the figures of ways
 

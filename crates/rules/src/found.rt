@@ -1,6 +1,6 @@
-// What a ticket's ways win in a drawn game: one pass over them, for every ticket of the game. It takes the terms apart into words, carries in one
-// word the numbers that a way selects and those of them that are drawn, and adds its figures in tables that all its calls are lent: the second
-// call of each is then a jump. It leaves a group before it takes it, so that the ways come in their order.
+// What a ticket's ways win in a drawn game: one pass over them, for every ticket of the game. All its calls are lent what they read and
+// the tables that they add their figures in, and carry in one word the numbers that a way selects and those of them that are drawn: so their six
+// parameters are words, and the second call of each is a jump. It leaves a group before it takes it, so that the ways come in their order.
 use crate::figures;
 use crate::prize;
 use crate::terms::Kind;
@@ -15,7 +15,7 @@ ghost use lib.ListN.{length};
 ghost use Rattle.rules.specs.Ways.{nominated};
 ghost use Rattle.rules.specs.Bounds.{Sound, Place};
 ghost use Rattle.rules.specs.Passes.{waysFrom};
-ghost use Rattle.rules.specs.Found.{sizeIn, hitsIn, groupSizes, groupHits, Groups, Carries, pairsFrom, Room, JoinedWays, wayOrNone, Counting, FoundWith};
+ghost use Rattle.rules.specs.Found.{sizeIn, hitsIn, groupSizes, groupHits, Groups, Carries, stakeIn, typesIn, kindIn, groupsIn, WalkOf, pairsFrom, Room, JoinedWays, wayOrNone, Counting, FoundWith};
 
 // Of a ticket's ways: the cents that they are paid in any case, of each major prize the floor; how many match all their numbers; and how many
 // major prizes there are, with those of the tickets before.
@@ -48,22 +48,15 @@ fn find_way(pair: u32, kind: Kind, stake: u32, found: &mut [u64; 3], majors: &mu
 }
 
 // Adds the figures of a mask of groups, which is a way or none.
-fn find_mask(
-    mask: u32,
-    pair: u32,
-    kind: Kind,
-    stake: u32,
-    types: u8,
-    found: &mut [u64; 3],
-    majors: &mut [u64; 250],
-)
-    requires { ⌜ Place 0 mask × Room (length (wayOrNone (nominated types (ones mask)) pair)) (now found) ⌝ }
-    ensures { λ r. ⌜ JoinedWays kind stake (wayOrNone (nominated types (ones mask)) pair) (now (found .entry)) (now (majors .entry)) (now (found .exit)) (now (majors .exit)) ⌝ }
+fn find_mask(mask: u32, pair: u32, table: &[u32; 12], found: &mut [u64; 3], majors: &mut [u64; 250])
+    requires { ⌜ Place 0 mask × Room (length (wayOrNone (nominated (typesIn (now table)) (ones mask)) pair)) (now found) ⌝ }
+    ensures { λ r. ⌜ JoinedWays (kindIn (now (table .entry))) (stakeIn (now (table .entry))) (wayOrNone (nominated (typesIn (now (table .entry))) (ones mask)) pair) (now (found .entry)) (now (majors .entry)) (now (found .exit)) (now (majors .exit)) ⌝ }
 {
-    if !ways::nominates(types, u32::count_ones(mask)) {
+    if !ways::nominates((table[1] % 256) as u8, u32::count_ones(mask)) {
         return;
     }
-    find_way(pair, kind, stake, found, majors);
+    let kind = Kind::of((table[2] % 256) as u8);
+    find_way(pair, kind, table[0], found, majors);
 }
 
 // Adds the figures of the ways that begin with the groups in the mask, where `left` groups are left to leave or to take.
@@ -71,47 +64,46 @@ fn find_from(
     left: usize,
     mask: u32,
     pair: u32,
-    kind: Kind,
-    stake: u32,
-    types: u8,
-    groups: &[u32; 9],
+    table: &[u32; 12],
     found: &mut [u64; 3],
     majors: &mut [u64; 250],
 )
-    requires { ⌜ Place left mask × Groups (now groups) × Carries left mask pair (now groups) × Room (length (waysFrom types left mask)) (now found) ⌝ }
-    ensures { λ r. ⌜ JoinedWays kind stake (pairsFrom types (now (groups .entry)) left mask) (now (found .entry)) (now (majors .entry)) (now (found .exit)) (now (majors .exit)) ⌝ }
+    requires { ⌜ Place left mask × Groups (groupsIn (now table)) × Carries left mask pair (groupsIn (now table)) × Room (length (waysFrom (typesIn (now table)) left mask)) (now found) ⌝ }
+    ensures { λ r. ⌜ JoinedWays (kindIn (now (table .entry))) (stakeIn (now (table .entry))) (pairsFrom (typesIn (now (table .entry))) (groupsIn (now (table .entry))) left mask) (now (found .entry)) (now (majors .entry)) (now (found .exit)) (now (majors .exit)) ⌝ }
 {
     if left == 0 {
-        find_mask(mask, pair, kind, stake, types, found, majors);
+        find_mask(mask, pair, table, found, majors);
         return;
     }
-    if ways::ends_here(types, mask, left) {
+    if ways::ends_here((table[1] % 256) as u8, mask, left) {
         return;
     }
     let after = left - 1;
-    find_from(
-        after,
-        mask * 2,
-        pair,
-        kind,
-        stake,
-        types,
-        groups,
-        found,
-        majors,
-    );
-    let more = pair + groups[left];
-    find_from(
-        after,
-        mask * 2 + 1,
-        more,
-        kind,
-        stake,
-        types,
-        groups,
-        found,
-        majors,
-    );
+    find_from(after, mask * 2, pair, table, found, majors);
+    let more = pair + table[3 + left];
+    find_from(after, mask * 2 + 1, more, table, found, majors);
+}
+
+// What the walk over a ticket's ways is lent.
+fn walk_table(terms: Terms, groups: &[u32; 9]) -> [u32; 12]
+    requires { ⌜ Groups (now groups) ⌝ }
+    ensures { λ r. ⌜ WalkOf terms (now (groups .entry)) r ⌝ }
+{
+    let kind = terms.kind;
+    [
+        terms.stake,
+        terms.types as u32,
+        kind.number() as u32,
+        groups[0],
+        groups[1],
+        groups[2],
+        groups[3],
+        groups[4],
+        groups[5],
+        groups[6],
+        groups[7],
+        groups[8],
+    ]
 }
 
 // What a ticket's ways win, from the table of its groups, where `before` major prizes were found before it. Its own are stored behind them.
@@ -119,20 +111,10 @@ pub fn ticket_prizes(terms: Terms, groups: &[u32; 9], before: u64, majors: &mut 
     requires { ⌜ Sound terms × Groups (now groups) × Counting before ⌝ }
     ensures { λ r. ⌜ FoundWith terms (groupSizes (now (groups .entry))) (groupHits (now (groups .entry))) before (now (majors .entry)) r (now (majors .exit)) ⌝ }
 {
-    let kind = terms.kind;
     let count = terms.groups;
+    let table = walk_table(terms, groups);
     let mut found = [0u64, 0u64, before];
-    find_from(
-        count as usize,
-        0,
-        0,
-        kind,
-        terms.stake,
-        terms.types,
-        groups,
-        &mut found,
-        majors,
-    );
+    find_from(count as usize, 0, 0, &table, &mut found, majors);
     Found {
         sure: found[0],
         full: found[1],

@@ -1,6 +1,6 @@
 // Kinds, schedules and the terms of a ticket.
 ghost use mathlib.Core.Path.{_≡_};
-ghost use Rattle.rules.specs.Kinds.{kindOf, isJackpot, isSpecialOne};
+ghost use Rattle.rules.specs.Kinds.{kindOf, kindNumber, isJackpot, isSpecialOne};
 
 // The schedule that a special entry plays for: rule 18.2 or rule 18.3.
 pub enum Schedule {
@@ -39,6 +39,19 @@ impl Kind {
             1 => Kind::Jackpot,
             2 => Kind::Special(Schedule::One),
             _ => Kind::Special(Schedule::Two),
+        }
+    }
+
+    pub fn number(self) -> u8
+        ensures { λ r. ⌜ r ≡ kindNumber self ⌝ }
+    {
+        match self {
+            Kind::Standard => 0,
+            Kind::Jackpot => 1,
+            Kind::Special(s) => match s {
+                Schedule::One => 2,
+                Schedule::Two => 3,
+            },
         }
     }
 

@@ -1,17 +1,19 @@
 -- `rules::found::find_from`, which calls itself, meets its contract: its two calls add one after the other what the ways that begin with its mask
 -- add together, and it calls none where there is no such way. The measure is the number of groups left.
-use Prim.Native.Nat.{ℕ, _+_, _*_, _-_, _<_}
+use Prim.Native.Nat.{ℕ, _+_, _*_, _-_, _≤_, _<_}
 use mathlib.Core.Path.{_≡_, sym, ap, _∙_, subst}
 use mathlib.Core.List.{List, _++_, map}
 use native.Mathlib.Omega.{arith}
 use native.Mathlib.Nat.{pos-of-ne-zero}
 use lib.ListN.{length, drop, length-map}
+use lib.Seq.{getD-drop}
 use lib.Count.{ones}
+use borrow.Author.Needs.{needs}
 use borrow.Fn.Kinds.{In}
 use borrow.Fn.PlainCycle.{Measures, is, falls, and}
 use Rattle.rules.specs.Ways.{nominated, taken}
 use Rattle.rules.specs.Passes.{waysFrom}
-use Rattle.rules.specs.Found.{pairsFrom, wayOrNone, Room, JoinedWays}
+use Rattle.rules.specs.Found.{stakeIn, typesIn, kindIn, groupsIn, Carries, pairsFrom, wayOrNone, Room, JoinedWays}
 use Rattle.rules.proofs.WayLaws.{mask-lt, place-end, place-with, place-without}
 use Rattle.rules.proofs.WalkLaws.{map-end, map-step}
 use Rattle.rules.proofs.FoundLaws.{no-ways, ways-both, room-first, room-second, carries-end, group-small, carries-with, carries-without}
@@ -47,29 +49,29 @@ module _ (t : ℕ) where
 
   -- where no group is left, the mask is the only way, or there is none
   own : (c : lts.Then1 called given find-from.Post)
-      → pairsFrom (c .before .args .types) (c .before .args .groups .now) (c .before .args .left) (c .before .args .mask)
-      ≡ wayOrNone (nominated (c .before .args .types) (ones (c .before .args .mask))) (c .before .args .pair)
+      → pairsFrom (typesIn (c .before .args .table .now)) (groupsIn (c .before .args .table .now)) (c .before .args .left) (c .before .args .mask)
+      ≡ wayOrNone (nominated (typesIn (c .before .args .table .now)) (ones (c .before .args .mask))) (c .before .args .pair)
   own c =
       let a = c .before .args in
-      map-end (λ k. taken k (drop 1 (a .groups .now))) (a .types) (a .mask) (c .if1 .taken)
-      ∙ ap (wayOrNone (nominated (a .types) (ones (a .mask)))) (sym (carries-end (c .if1 .taken) (c .before .pre .1 .2)))
+      map-end (λ k. taken k (drop 1 (groupsIn (a .table .now)))) (typesIn (a .table .now)) (a .mask) (c .if1 .taken)
+      ∙ ap (wayOrNone (nominated (typesIn (a .table .now)) (ones (a .mask)))) (sym (carries-end (c .if1 .taken) (c .before .pre .1 .2)))
 
   -- the ways that leave the next group, and then those that take it
   parts : (c : lts.Else1 called given find-from.Post)
-      → pairsFrom (c .before .args .types) (c .before .args .groups .now) (c .before .args .left) (c .before .args .mask)
-      ≡ pairsFrom (c .before .args .types) (c .before .args .groups .now) (c .before .args .left - 1) (c .before .args .mask * 2)
-      ++ pairsFrom (c .before .args .types) (c .before .args .groups .now) (c .before .args .left - 1) (c .before .args .mask * 2 + 1)
+      → pairsFrom (typesIn (c .before .args .table .now)) (groupsIn (c .before .args .table .now)) (c .before .args .left) (c .before .args .mask)
+      ≡ pairsFrom (typesIn (c .before .args .table .now)) (groupsIn (c .before .args .table .now)) (c .before .args .left - 1) (c .before .args .mask * 2)
+      ++ pairsFrom (typesIn (c .before .args .table .now)) (groupsIn (c .before .args .table .now)) (c .before .args .left - 1) (c .before .args .mask * 2 + 1)
   parts c =
       let a = c .before .args in
-      map-step (λ k. taken k (drop 1 (a .groups .now))) (a .types) (a .mask) (c .if1 .left)
+      map-step (λ k. taken k (drop 1 (groupsIn (a .table .now)))) (typesIn (a .table .now)) (a .mask) (c .if1 .left)
 
   both-room : (c : lts.Else1 called given find-from.Post)
-      → Room (length (pairsFrom (c .before .args .types) (c .before .args .groups .now) (c .before .args .left - 1) (c .before .args .mask * 2)
-      ++ pairsFrom (c .before .args .types) (c .before .args .groups .now) (c .before .args .left - 1) (c .before .args .mask * 2 + 1))) (c .before .args .found .now)
+      → Room (length (pairsFrom (typesIn (c .before .args .table .now)) (groupsIn (c .before .args .table .now)) (c .before .args .left - 1) (c .before .args .mask * 2)
+      ++ pairsFrom (typesIn (c .before .args .table .now)) (groupsIn (c .before .args .table .now)) (c .before .args .left - 1) (c .before .args .mask * 2 + 1))) (c .before .args .found .now)
   both-room c =
       let a = c .before .args in
       subst (λ (l : List ℕ). Room (length l) (a .found .now)) (parts c)
-      (room-pairs (a .types) (a .left) (a .mask) (a .groups .now) (c .before .pre .1 .3))
+      (room-pairs (typesIn (a .table .now)) (a .left) (a .mask) (groupsIn (a .table .now)) (c .before .pre .1 .3))
 
   find-mask-requires : lts.Need-find-mask-requires called given find-from.Post
   find-mask-requires c κs =
@@ -78,31 +80,37 @@ module _ (t : ℕ) where
       let pre = then .before .pre .1 in (
         place-end (then .if1 .taken) (pre .0),
         subst (λ (l : List ℕ). Room (length l) (a .found .now)) (own then)
-            (room-pairs (a .types) (a .left) (a .mask) (a .groups .now) (pre .3)),
+            (room-pairs (typesIn (a .table .now)) (a .left) (a .mask) (groupsIn (a .table .now)) (pre .3)),
       )
 
   returns : lts.Need-returns called given find-from.Post
   returns c = rw (own (c .before .before .before)) (c .find-mask .ensures)
 
+  element-copy-out-ends-here : lts.Need-element-copy-out-ends-here called given find-from.Post
+  element-copy-out-ends-here c = search needs
+
+  cast-ends-here : lts.Need-cast-ends-here called given find-from.Post
+  cast-ends-here c = search needs
+
   ends-here-requires : lts.Need-ends-here-requires called given find-from.Post
-  ends-here-requires c κs = c .before .pre .1 .0
+  ends-here-requires c κs = c .before .before .pre .1 .0
 
   returns-2 : lts.Need-returns-2 called given find-from.Post
   returns-2 c =
-      let a = c .before .before .before .args in
-      subst (λ (l : List ℕ). JoinedWays (a .kind) (a .stake) (map (λ k. taken k (drop 1 (a .groups .now))) l) (a .found .now) (a .majors .now) (a .found .now) (a .majors .now))
+      let a = c .before .before .before .before .args in
+      subst (λ (l : List ℕ). JoinedWays (kindIn (a .table .now)) (stakeIn (a .table .now)) (map (λ k. taken k (drop 1 (groupsIn (a .table .now)))) l) (a .found .now) (a .majors .now) (a .found .now) (a .majors .now))
       (sym (c .before .ends-here .ensures (c .if2 .taken)))
-      (no-ways (a .kind) (a .stake) (a .found .now) (a .majors .now))
+      (no-ways (kindIn (a .table .now)) (stakeIn (a .table .now)) (a .found .now) (a .majors .now))
 
   sub-after : lts.Need-sub-after called given find-from.Post
-  sub-after c = pos-of-ne-zero (c .before .before .if1 .left)
+  sub-after c = pos-of-ne-zero (c .before .before .before .if1 .left)
 
   mul-find-from : lts.Need-mul-find-from called given find-from.Post
-  mul-find-from c = omega (arith, mask-lt (c .before .before .before .pre .1 .0))
+  mul-find-from c = omega (arith, mask-lt (c .before .before .before .before .pre .1 .0))
 
   find-from-requires : lts.Need-find-from-requires called given find-from.Post
   find-from-requires c κs =
-      let else = c .before .before .before .before in
+      let else = c .before .before .before .before .before in
       let some = else .if1 .left in
       let start = else .before in
       let a = start .args in
@@ -112,33 +120,41 @@ module _ (t : ℕ) where
           place-without some (pre .1 .0),
           pre .1 .1,
           carries-without some (pre .1 .0 .groups) (pre .1 .2),
-          room-ways (a .types) (a .left - 1) (a .mask * 2) (a .groups .now)
-              (room-first (pairsFrom (a .types) (a .groups .now) (a .left - 1) (a .mask * 2)) (pairsFrom (a .types) (a .groups .now) (a .left - 1) (a .mask * 2 + 1)) (both-room else)),
+          room-ways (typesIn (a .table .now)) (a .left - 1) (a .mask * 2) (groupsIn (a .table .now))
+              (room-first (pairsFrom (typesIn (a .table .now)) (groupsIn (a .table .now)) (a .left - 1) (a .mask * 2)) (pairsFrom (typesIn (a .table .now)) (groupsIn (a .table .now)) (a .left - 1) (a .mask * 2 + 1)) (both-room else)),
         ),
       )
 
-  mul-more : lts.Need-mul-more called given find-from.Post
-  mul-more c = omega (arith, c .before .before .before .before .before .before .pre .1 .0 .groups)
-
-  element-copy-out-more : lts.Need-element-copy-out-more called given find-from.Post
-  element-copy-out-more c = omega (arith, c .before .before .before .before .before .before .pre .1 .0 .groups)
+  -- the place of the next group in the table
+  place-few : (c : lts.After-find-from called given find-from.Post) → c .before .before .before .before .before .before .before .args .left ≤ 8
+  place-few c = c .before .before .before .before .before .before .before .pre .1 .0 .groups
 
   add-more : lts.Need-add-more called given find-from.Post
-  add-more c =
-      let else = c .before .before .before .before .before .before in
+  add-more c = omega (arith, place-few c)
+
+  mul-more : lts.Need-mul-more called given find-from.Post
+  mul-more c = omega (arith, place-few c)
+
+  element-copy-out-more : lts.Need-element-copy-out-more called given find-from.Post
+  element-copy-out-more c = omega (arith, place-few c)
+
+  add-more-2 : lts.Need-add-more-2 called given find-from.Post
+  add-more-2 c =
+      let else = c .before .before .before .before .before .before .before in
       let start = else .before in
-      omega (arith, start .pre .1 .2 .small, group-small (start .args .groups .now) (start .pre .1 .1) (start .args .left), pos-of-ne-zero (else .if1 .left))
+      let table = start .args .table .now in
+      omega (arith, start .pre .1 .2 .small, group-small (groupsIn table) (start .pre .1 .1) (start .args .left), getD-drop 3 table (start .args .left) 0, pos-of-ne-zero (else .if1 .left))
 
   mul-find-from-2 : lts.Need-mul-find-from-2 called given find-from.Post
-  mul-find-from-2 c = omega (arith, mask-lt (c .before .before .before .before .before .before .before .pre .1 .0))
+  mul-find-from-2 c = omega (arith, mask-lt (c .before .before .before .before .before .before .before .before .pre .1 .0))
 
   add-find-from : lts.Need-add-find-from called given find-from.Post
-  add-find-from c = omega (arith, mask-lt (c .before .before .before .before .before .before .before .pre .1 .0))
+  add-find-from c = omega (arith, mask-lt (c .before .before .before .before .before .before .before .before .pre .1 .0))
 
   find-from-requires-2 : lts.Need-find-from-requires-2 called given find-from.Post
   find-from-requires-2 c κs =
       let first = c .before .before .before in
-      let else = first .before .before .before .before .before in
+      let else = first .before .before .before .before .before .before in
       let some = else .if1 .left in
       let start = else .before in
       let a = start .args in
@@ -147,19 +163,20 @@ module _ (t : ℕ) where
         (
           place-with some (pre .1 .0),
           pre .1 .1,
-          carries-with some (pre .1 .0 .groups) (pre .1 .1) (pre .1 .2),
-          room-ways (a .types) (a .left - 1) (a .mask * 2 + 1) (a .groups .now)
-              (room-second (a .kind) (a .stake) (pairsFrom (a .types) (a .groups .now) (a .left - 1) (a .mask * 2)) (pairsFrom (a .types) (a .groups .now) (a .left - 1) (a .mask * 2 + 1)) (first .find-from .ensures) (both-room else)),
+          subst (λ n. Carries (a .left - 1) (a .mask * 2 + 1) (a .pair + n) (groupsIn (a .table .now))) (getD-drop 3 (a .table .now) (a .left) 0)
+              (carries-with some (pre .1 .0 .groups) (pre .1 .1) (pre .1 .2)),
+          room-ways (typesIn (a .table .now)) (a .left - 1) (a .mask * 2 + 1) (groupsIn (a .table .now))
+              (room-second (kindIn (a .table .now)) (stakeIn (a .table .now)) (pairsFrom (typesIn (a .table .now)) (groupsIn (a .table .now)) (a .left - 1) (a .mask * 2)) (pairsFrom (typesIn (a .table .now)) (groupsIn (a .table .now)) (a .left - 1) (a .mask * 2 + 1)) (first .find-from .ensures) (both-room else)),
         ),
       )
 
   returns-3 : lts.Need-returns-3 called given find-from.Post
   returns-3 c =
       let first = c .before .before .before .before in
-      let else = first .before .before .before .before .before in
+      let else = first .before .before .before .before .before .before in
       let a = else .before .args in
       rw (parts else)
-      (ways-both (a .kind) (a .stake) (pairsFrom (a .types) (a .groups .now) (a .left - 1) (a .mask * 2)) (pairsFrom (a .types) (a .groups .now) (a .left - 1) (a .mask * 2 + 1)) (first .find-from .ensures) (c .find-from2 .ensures))
+      (ways-both (kindIn (a .table .now)) (stakeIn (a .table .now)) (pairsFrom (typesIn (a .table .now)) (groupsIn (a .table .now)) (a .left - 1) (a .mask * 2)) (pairsFrom (typesIn (a .table .now)) (groupsIn (a .table .now)) (a .left - 1) (a .mask * 2 + 1)) (first .find-from .ensures) (c .find-from2 .ensures))
 
 pub +find-from-spec : {M : Type 1} → statement M
 +find-from-spec =
@@ -167,14 +184,17 @@ pub +find-from-spec : {M : Type 1} → statement M
     lts.spec (called t) (given t) find-from.Post
     (find-mask-requires t)
     (returns t)
+    (element-copy-out-ends-here t)
+    (cast-ends-here t)
     (ends-here-requires t)
     (returns-2 t)
     (sub-after t)
     (mul-find-from t)
     (find-from-requires t)
+    (add-more t)
     (mul-more t)
     (element-copy-out-more t)
-    (add-more t)
+    (add-more-2 t)
     (mul-find-from-2 t)
     (add-find-from t)
     (find-from-requires-2 t)
