@@ -11,8 +11,8 @@ use lib.ListN.{length, length-map}
 use borrow.Author.Tests.{leb-true, leb-false, eqb-true, eq-eqb}
 use Rattle.rules.specs.Lists.{sum, keep, any, member}
 use Rattle.rules.specs.Ways.{sizes, ways}
-use Rattle.rules.specs.Prize.{prizeLimit, majorFloor, isMajor}
-use Rattle.rules.specs.Cut.{payout}
+use Rattle.rules.specs.Prize.{majorFloor, isMajor}
+use Rattle.rules.specs.Cut.{majorsLimit, payout}
 use Rattle.rules.specs.Jackpots.{guaranteeOfSix, guaranteeOfEight, pooled, contribution, contributed, jackpotWon, jackpotShares, seedOf, reseeded, repaidOf, repaid}
 use Rattle.rules.specs.Settle.{Entry, prizesBy, wayPrizes, jackpotBy, winnerOf, paidFor, majorsOf, prizesOf, settleJackpot, settle}
 use Rattle.rules.specs.declared.terms.Draw.{Draw}
@@ -333,26 +333,26 @@ entry-major draw e (x ∷ es) p (List·Memᴰ·tail later) m major =
     member-right p (keep isMajor (wayPrizes draw x)) (majorsOf draw es) (entry-major draw e es p later m major)
 
 -- where a game's major prizes pay no more than the limit each
-module _ (cut-within : (ps : List ℕ) (p : ℕ) → member p ps ≡ true → majorFloor ≤ p → payout ps p ≤ prizeLimit) where
+module _ (cut-within : (ps : List ℕ) (p : ℕ) → member p ps ≡ true → majorFloor ≤ p → payout ps p ≤ majorsLimit) where
   -- then so do all prizes
   pub way-within : (draw : Draw) (es : List Entry) (e : Entry) → List·Memᴰ e es →
-      (p : ℕ) → member p (wayPrizes draw e) ≡ true → payout (majorsOf draw es) p ≤ prizeLimit
+      (p : ℕ) → member p (wayPrizes draw e) ≡ true → payout (majorsOf draw es) p ≤ majorsLimit
   way-within draw es e among p m = go (isMajor p) refl
     where
-      go : (t : Bool) → isMajor p ≡ t → payout (majorsOf draw es) p ≤ prizeLimit
+      go : (t : Bool) → isMajor p ≡ t → payout (majorsOf draw es) p ≤ majorsLimit
       go true major = cut-within (majorsOf draw es) p (entry-major draw e es p among m major) (leb-true majorFloor p major)
       go false minor = omega (arith, minor-uncut (majorsOf draw es) p minor, leb-false majorFloor p minor)
 
   -- an entry's prizes are within the limit for each of its ways
   pub entry-within : (draw : Draw) (es : List Entry) (e : Entry) → List·Memᴰ e es →
-      prizesOf (majorsOf draw es) draw e ≤ length (ways (e .terms .groups) (e .terms .types)) * prizeLimit
-  entry-within draw es e among = prizes-of-within (majorsOf draw es) draw e prizeLimit (way-within draw es e among)
+      prizesOf (majorsOf draw es) draw e ≤ length (ways (e .terms .groups) (e .terms .types)) * majorsLimit
+  entry-within draw es e among = prizes-of-within (majorsOf draw es) draw e majorsLimit (way-within draw es e among)
 
   -- and the game's within that of each entry, of which none has more than so many ways
   pub prizes-within : (draw : Draw) (six eight : Jackpot) (es : List Entry) (most : ℕ) →
       ((e : Entry) → List·Memᴰ e es → length (ways (e .terms .groups) (e .terms .types)) ≤ most) →
-      settle draw six eight es .prizes ≤ length es * (most * prizeLimit)
+      settle draw six eight es .prizes ≤ length es * (most * majorsLimit)
   unfolding settle
   prizes-within draw six eight es most few =
-      sum-within (prizesOf (majorsOf draw es) draw) (most * prizeLimit) es
-      (λ e among. le-trans (entry-within draw es e among) (mul-le-mul-right prizeLimit (few e among)))
+      sum-within (prizesOf (majorsOf draw es) draw) (most * majorsLimit) es
+      (λ e among. le-trans (entry-within draw es e among) (mul-le-mul-right majorsLimit (few e among)))

@@ -6,7 +6,8 @@ use mathlib.Core.List.{List}
 use lib.ListN.{length, drop, getD}
 use Rattle.rules.specs.Ways.{taken}
 use Rattle.rules.specs.Price.{chargeLimit}
-use Rattle.rules.specs.Prize.{prizeLimit, majorFloor}
+use Rattle.rules.specs.Prize.{majorFloor}
+use Rattle.rules.specs.Cut.{majorsLimit}
 use Rattle.rules.specs.declared.terms.Terms.{Terms}
 use Rattle.rules.specs.declared.cut.Cut.{Cut}
 use Rattle.rules.specs.declared.jackpot.Jackpot.{Jackpot}
@@ -42,7 +43,7 @@ pub record Cuttable (c : Cut) : Type 0 where
 pub record Divided (base part : ℕ) : Type 0 where
   pub small : base < 2 ^ 63
   pub least : majorFloor ≤ part
-  pub most : part ≤ prizeLimit
+  pub most : part ≤ majorsLimit
 
 -- a jackpot whose pools and debt can grow by one game's paid stakes and a seed
 pub record Roomy (j : Jackpot) : Type 0 where
