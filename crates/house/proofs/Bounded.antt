@@ -16,7 +16,7 @@ use Rattle.rules.specs.Prize.{majorFloor}
 use Rattle.rules.specs.Cut.{majorsLimit, payout}
 use Rattle.rules.specs.Jackpots.{guaranteeOfSix, guaranteeOfEight}
 use Rattle.rules.specs.Settle.{Entry}
-use Rattle.rules.specs.Bounds.{Sound, Roomy}
+use Rattle.rules.specs.Bounds.{Sound}
 use Rattle.rules.specs.Checks.{Operands, operandCode, wayCount, chargeOf}
 use Rattle.rules.specs.declared.jackpot.Jackpot.{Jackpot}
 use Rattle.rules.specs.declared.terms.Draw.{Draw}
@@ -336,10 +336,6 @@ pub record Fit (m : Model) : Type 0 where
 pub figures-fit : (m : Model) → Bounded m → Balanced (tillOf m) → Fit m
 unfolding tillOf
 figures-fit m b balance = omega arith
-
--- so that a jackpot has the room that the parts of the rule book ask for
-pub jackpot-roomy : (j : Jackpot) → JackpotFits j → Roomy j
-jackpot-roomy j fits = omega arith
 
 -- and what each ticket is due is a part of what is owed
 pub dues-fit : (m : Model) → Fit m → All (λ t. t .due < 2 ^ 62) (m .live)

@@ -14,7 +14,7 @@ use Rattle.rules.specs.Prize.{majorFloor}
 use Rattle.rules.specs.Cut.{majorsLimit, Floored, floorCount, cutBase, joins, roundOf, rounds, flooredOf, cutPrize, payout}
 use Rattle.rules.specs.Rounds.{firstCut, shareable, payUnder, nextBelow}
 use Rattle.rules.specs.declared.cut.Cut.{Cut}
-use Rattle.rules.proofs.KeepLaws.{Agree, ltb-same, leb-not-ltb, keep-agree, keep-none, keep-all, length-keep-le, sum-keep-split, kept-le-sum}
+use Rattle.rules.proofs.KeepLaws.{Agree, ltb-same, leb-not-ltb, keep-agree, keep-none, keep-all, length-keep-le, kept-le-sum}
 use Rattle.rules.proofs.CutRounds.{floorCount-agree, cutBase-agree, count-grows, stable-by-count, stable-floored}
 
 -- m × b / a rounded up is the sum of the two parts that the code computes
@@ -111,11 +111,6 @@ state-first ps =
 pub outside-le-base : (ps : List ℕ) (f : Floored) (p : ℕ) → List·Memᴰ p ps → f p ≡ false → p ≤ cutBase f ps
 unfolding cutBase
 outside-le-base ps f p m h = kept-le-sum (λ x. not (f x)) ps p m (ap not h)
-
--- and B a part of the whole
-pub state-base-le : (ps : List ℕ) (n : ℕ) (c : Cut) → StateOf ps n c → c .base ≤ sum ps
-unfolding cutBase
-state-base-le ps n c s = omega (arith, s .base, sum-keep-split (rounds n ps) ps)
 
 -- the size of F never passes that of ps, which bounds the loop that runs the rounds
 pub next-count-le : (ps : List ℕ) (c : Cut) → nextCut ps c .count ≤ length ps

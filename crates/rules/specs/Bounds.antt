@@ -17,10 +17,6 @@ pub record Sound (t : Terms) : Type 0 where
   pub groups : t .groups ≤ 8
   pub stake : t .stake ≤ chargeLimit
 
--- a stake within the most that a ticket can cost
-pub record Affordable (stake : ℕ) : Type 0 where
-  pub limit : stake ≤ chargeLimit
-
 -- a place in the walk over a ticket's ways: so many of at most 8 groups are left to take or to leave, and the mask has the choice of the others
 pub record Place (left mask : ℕ) : Type 0 where
   pub groups : left ≤ 8
