@@ -15,6 +15,7 @@ pub struct Lookup {
     pub place: usize,
 }
 
+// The first refusal of the table that holds of a number, or the place of its live ticket.
 pub(crate) fn look_up(house: House, rows: &[u64; 3200], ticket: u32) -> Lookup
     requires { ⌜ ComesWith house (now rows) ⌝ }
     ensures code { λ r. ⌜ ((marks : List ℕ) → r .code ≡ firstMet (lookupRows ticket (view house (now (rows .entry)) marks))) ⌝ }
