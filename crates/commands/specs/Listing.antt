@@ -1,5 +1,5 @@
 -- "The live list writes each live ticket's number once, 4 bytes each, into a lent buffer and answers how many; its order is free, and bytes
--- beyond are untouched. [..] 30 buffer under 4 × live tickets."
+-- beyond are untouched. [..] 30 buffer under 4 × live tickets".
 use Prim.Native.Nat.{ℕ, _*_, _/_, _%_}
 use mathlib.Core.Path.{_≡_}
 use mathlib.Core.Bool.{cond}

@@ -1,4 +1,4 @@
--- "one that takes a decoded command": which command of the model a decoded one is. Sell's marks stand beside it.
+-- Which command of the model a decoded one is. Sell's marks stand beside it.
 use Prim.Native.Nat.{ℕ}
 use mathlib.Core.List.{List}
 use Rattle.house.specs.Commands.{open′, sell, cancel, ball, claim, expire, transfer}

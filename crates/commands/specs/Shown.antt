@@ -1,4 +1,4 @@
--- The till and the pools as a caller gets them: "the nine figures, retained signed".
+-- The till and the pools as a caller gets them: the nine figures, retained with its sign.
 use Prim.Native.Nat.{_-_, min, max}
 use lib.Dec.{ltb}
 use Rattle.house.specs.Model.{Model}

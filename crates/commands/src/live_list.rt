@@ -41,6 +41,7 @@ fn write_numbers(rows: &[u64; 3200], live: usize, out: &mut [u8])
     }
 }
 
+// The numbers of the live tickets, four bytes each, or code 30 where the buffer is too short.
 pub fn live_list(house: House, rows: &[u64; 3200], out: &mut [u8]) -> Listed
     requires { ⌜ ComesWith house (now rows) ⌝ }
     ensures { λ r. ⌜ ((marks : List ℕ) → Listing (view house (now (rows .entry)) marks) (now (out .entry)) (now (out .exit)) r) ⌝ }

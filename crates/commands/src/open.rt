@@ -8,6 +8,7 @@ ghost use Prim.Native.Nat.{ℕ};
 ghost use Rattle.house.specs.Commands.{open′};
 ghost use Rattle.house.specs.Parts.{Carried};
 
+// Opens the lounge on a later day, while no game is drawn.
 pub fn open_day(house: House, day: u16) -> Outcome
     ensures { λ r. ⌜ ((words marks : List ℕ) → Carried house words marks (open′ day) (r .house) words marks (r .answer)) ⌝ }
 {

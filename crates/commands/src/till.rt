@@ -35,6 +35,7 @@ pub struct Pools {
     pub eight: Jackpot,
 }
 
+// The pools and the debts as the house keeps them.
 pub fn pools_of(house: House) -> Pools
     ensures { λ r. ⌜ ((words marks : List ℕ) → r ≡ poolsOf (view house words marks)) ⌝ }
 {
@@ -127,6 +128,7 @@ fn owed_of(house: House, rows: &[u64; 3200]) -> u64
     owed
 }
 
+// The nine figures of the till. Held and owed are counted from the rows.
 pub fn till_of(house: House, rows: &[u64; 3200]) -> Till
     requires { ⌜ ComesWith house (now rows) ⌝ }
     ensures { λ r. ⌜ ((marks : List ℕ) → r ≡ shownTill (tillOf (view house (now (rows .entry)) marks))) ⌝ }

@@ -40,6 +40,7 @@ fn transfer_code(house: House, jackpot: u8, cents: u64) -> u8
     0
 }
 
+// Moves cents of the unclaimed prizes into the primary of a jackpot.
 pub fn transfer_cents(house: House, jackpot: u8, cents: u32) -> Outcome
     requires { ⌜ Comes house ⌝ }
     ensures { λ r. ⌜ ((words marks : List ℕ) → Carried house words marks (transfer jackpot cents) (r .house) words marks (r .answer)) ⌝ }

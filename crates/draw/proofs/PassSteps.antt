@@ -15,8 +15,8 @@ use lib.ListN.{length, take, drop, set, getD, length-append, length-map, length-
 use lib.Seq.{sets, take-all, take-suc-set, take-append-le, drop-append-seam, take-at, getD-take, getD-set-other, ext-getD, sets-eq, length-sets}
 use Rattle.rules.specs.Lists.{sum, below, keep, every}
 use Rattle.rules.specs.Checks.{operandCode, marksFit}
-use Rattle.rules.specs.Prize.{prizeLimit, majorFloor, isMajor}
-use Rattle.rules.specs.Cut.{payout}
+use Rattle.rules.specs.Prize.{majorFloor, isMajor}
+use Rattle.rules.specs.Cut.{majorsLimit, payout}
 use Rattle.rules.specs.Ways.{sizes, sizeOf, sizeWord, hits}
 use Rattle.rules.specs.Bounds.{Grouping}
 use Rattle.rules.specs.Found.{groupSizes, groupHits, wordSizes, GroupsOf, FoundWith}
@@ -354,7 +354,7 @@ module _ (pss : List (List ℕ)) (sure ends majors : List ℕ) (c : Cut) (k : Cu
           long = k .long;
           small = λ p m. k .small p (among p m);
           least = λ p m. subst (λ x. majorFloor ≤ x) (sym (k .pays .each p (among p m))) (payout-floor all p (among p m) (majors-large pss p (among p m)));
-          most = λ p m. subst (λ x. x ≤ prizeLimit) (sym (k .pays .each p (among p m))) (payout-le all p (among p m));
+          most = λ p m. subst (λ x. x ≤ majorsLimit) (sym (k .pays .each p (among p m))) (payout-le all p (among p m));
         }
 
     -- and what it gives
@@ -367,14 +367,14 @@ module _ (pss : List (List ℕ)) (sure ends majors : List ℕ) (c : Cut) (k : Cu
         ∙ sym (paid-raised all (getD pss i []) own-least)
 
     -- no ticket is paid more than the limit for each way
-    pub paid-small : paidTo i ≤ 255 * prizeLimit
+    pub paid-small : paidTo i ≤ 255 * majorsLimit
     paid-small =
-        le-trans (sum-within (payout all) prizeLimit (getD pss i []) each) (mul-le-mul-right prizeLimit (k .ways i))
+        le-trans (sum-within (payout all) majorsLimit (getD pss i []) each) (mul-le-mul-right majorsLimit (k .ways i))
       where
-        each : (p : ℕ) → List·Memᴰ p (getD pss i []) → payout all p ≤ prizeLimit
+        each : (p : ℕ) → List·Memᴰ p (getD pss i []) → payout all p ≤ majorsLimit
         each p m = go (isMajor p) refl
           where
-            go : (t : Bool) → isMajor p ≡ t → payout all p ≤ prizeLimit
+            go : (t : Bool) → isMajor p ≡ t → payout all p ≤ majorsLimit
             go true e = payout-le all p (own-major pss i p inside (keep-member isMajor (getD pss i []) p m e))
             go false e = omega (arith, leb-false majorFloor p e, payout-minor all p (leb-false majorFloor p e))
 

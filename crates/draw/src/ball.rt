@@ -56,7 +56,7 @@ fn ball_code(house: House, number: u8) -> u8
 }
 
 // The balls in, and one number more.
-pub fn balls_with(house: House, number: u8) -> [u8; 20]
+pub(crate) fn balls_with(house: House, number: u8) -> [u8; 20]
     requires { ⌜ house .drawn < 20 ⌝ }
     ensures count { λ r. ⌜ length r ≡ 20 ⌝ }
     ensures balls { λ r. ⌜ ((words marks : List ℕ) → map (λ i. getD r i 0) (below (house .drawn + 1)) ≡ ballsWith number (view house words marks)) ⌝ }

@@ -64,7 +64,7 @@ fn with_ticket(stakes: Stakes, rows: &[u64; 3200], full: &[u64; 200], i: usize, 
 }
 
 // From the prizes and full matches in the first places of two tables, one for each live ticket.
-pub fn find_figures(
+pub(crate) fn find_figures(
     rows: &[u64; 3200],
     paid: &[u64; 200],
     full: &[u64; 200],

@@ -145,7 +145,7 @@ fn raise_all(live: usize, ends: &[u64; 200], majors: &[u64; 250], cut: Cut, paid
 }
 
 // Fills the first places of `paid` and `full`, one for each live ticket.
-pub fn find_prizes(
+pub(crate) fn find_prizes(
     house: House,
     rows: &[u64; 3200],
     marks: &[u8; 16000],

@@ -160,7 +160,8 @@ fn next_game(house: House, left: usize, prizes: u64, stakes: u64, six: Part, eig
     }
 }
 
-pub fn settle_game(
+// The twentieth ball: prizes and cuts, both jackpots, what each ticket is due, and the tickets that stay.
+pub(crate) fn settle_game(
     house: House,
     rows: &mut [u64; 3200],
     marks: &mut [u8; 16000],

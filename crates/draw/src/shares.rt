@@ -145,7 +145,7 @@ fn guarantee_of(jackpot: u64) -> u64
 }
 
 // The game's part of the jackpot for 6 or 8 numbers, from its stakes. Its shares join what each ticket is paid.
-pub fn settle_jackpot(
+pub(crate) fn settle_jackpot(
     house: House,
     rows: &[u64; 3200],
     stakes: Stakes,

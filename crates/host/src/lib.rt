@@ -43,8 +43,8 @@ pub extern "C" fn wulipday_roll(
     read_roll(house, rows, marks, roll, book)
 }
 
-// Carries out the first command of the bytes and writes its answer. Where more bytes follow it the stop code is 3, and where they are no command
-// nothing is done.
+// Carries out the first command of the bytes and writes its answer. `answers` tells what was done: 1, the first command was carried out or refused and
+// `read` is its bytes; 0, nothing was done, and the stop says why.
 #[no_mangle]
 pub extern "C" fn wulipday_command(
     house: House,

@@ -12,11 +12,11 @@ use borrow.Author.Tests.{ltb-false, eqb-true}
 use Rattle.rules.specs.Lists.{sum, keep, any, member}
 use Rattle.rules.specs.Ways.{ways}
 use Rattle.rules.specs.Price.{chargeLimit, paidGames, charge}
-use Rattle.rules.specs.Prize.{prizeLimit, majorFloor}
-use Rattle.rules.specs.Cut.{payout}
+use Rattle.rules.specs.Prize.{majorFloor}
+use Rattle.rules.specs.Cut.{majorsLimit, payout}
 use Rattle.rules.specs.Jackpots.{guaranteeOfSix, guaranteeOfEight}
 use Rattle.rules.specs.Settle.{Entry}
-use Rattle.rules.specs.Bounds.{Sound, Roomy}
+use Rattle.rules.specs.Bounds.{Sound}
 use Rattle.rules.specs.Checks.{Operands, operandCode, wayCount, chargeOf}
 use Rattle.rules.specs.declared.jackpot.Jackpot.{Jackpot}
 use Rattle.rules.specs.declared.terms.Draw.{Draw}
@@ -103,7 +103,7 @@ member-found x (y ∷ ys) found = go (eqb x y) refl found (member-found x ys)
     go false other later rest = List·Memᴰ·tail (rest later)
 
 -- a game's major prizes pay no more than the limit each
-cut-within : (ps : List ℕ) (p : ℕ) → member p ps ≡ true → majorFloor ≤ p → payout ps p ≤ prizeLimit
+cut-within : (ps : List ℕ) (p : ℕ) → member p ps ≡ true → majorFloor ≤ p → payout ps p ≤ majorsLimit
 cut-within ps p found major = payout-le ps p (member-found p ps found)
 
 -- ---- one ticket
@@ -159,7 +159,7 @@ span-paid-within game from upto t k begun =
 
 -- what one game can lose: the prizes of 200 tickets of 256 ways at most, and contributions, which come from their paid stakes
 abbrev pub perGame : ℕ
-perGame = liveLimit * (256 * prizeLimit) + liveLimit * chargeLimit
+perGame = liveLimit * (256 * majorsLimit) + liveLimit * chargeLimit
 
 pub record Bounded (m : Model) : Type 0 where
   pub live : length (stillLive (m .game) (m .live)) ≤ liveLimit
@@ -336,10 +336,6 @@ pub record Fit (m : Model) : Type 0 where
 pub figures-fit : (m : Model) → Bounded m → Balanced (tillOf m) → Fit m
 unfolding tillOf
 figures-fit m b balance = omega arith
-
--- so that a jackpot has the room that the parts of the rule book ask for
-pub jackpot-roomy : (j : Jackpot) → JackpotFits j → Roomy j
-jackpot-roomy j fits = omega arith
 
 -- and what each ticket is due is a part of what is owed
 pub dues-fit : (m : Model) → Fit m → All (λ t. t .due < 2 ^ 62) (m .live)

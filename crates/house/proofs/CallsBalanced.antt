@@ -6,7 +6,7 @@ use Prim.Native.Nat.{ℕ}
 use Rattle.house.specs.Model.{fresh}
 use Rattle.house.specs.Commands.{Command, step}
 use Rattle.house.specs.Till.{tillOf}
-use Rattle.house.specs.Balance.{run, runFrom, Reached}
+use Rattle.house.specs.Balance.{run, runFrom}
 use Rattle.house.specs.View.{view}
 use Rattle.house.specs.Calls.{Calls, begun, called, CallsBalance}
 use Rattle.house.specs.declared.state.House.{House}
@@ -20,10 +20,6 @@ calls-house (called {cs} {c = c} calls done) =
     ∙ ap (λ m. step m c .house) (calls-house calls)
     ∙ sym (reached-more cs (record { house = fresh; log = [] }) c)
 
--- so that every call may be made
-pub calls-reach : {cs : List Command} {h : House} {words marks : List ℕ} → Calls cs h words marks → Reached (view h words marks)
-calls-reach {cs} calls = record { commands = cs; comes = sym (calls-house calls) }
-
 pub calls-balance : {cs : List Command} {h : House} {words marks : List ℕ} → Calls cs h words marks → CallsBalance cs h words marks
 calls-balance {cs} calls =
     let same = calls-house calls in
@@ -31,5 +27,6 @@ calls-balance {cs} calls =
       house = same;
       till = till-balances cs;
       figures = ap tillOf same ∙ till-balances cs .figures;
+      reached = record { commands = cs; comes = sym same };
       answer = λ c after words′ marks′ a done. done .answer ∙ ap (λ m. step m c .answer) same;
     }

@@ -16,7 +16,7 @@ use Rattle.rules.specs.Price.{chargeLimit, stakeFits}
 use Rattle.rules.specs.Checks.{Operands, firstMet, marksFit, operandRows, operandCode, wayCount, chargeOf}
 use Rattle.house.specs.Tickets.{isFinished, kenoToGoBegun}
 use Rattle.house.specs.Model.{Model, gameLimit, liveLimit, ticketLimit, isDrawing, nextGame}
-use Rattle.house.specs.Commands.{open′, sell, cancel, ball, claim, expire, transfer, ticketAt, hasTicket, cancelStop, rowsOf, codeOf}
+use Rattle.house.specs.Commands.{sell, cancel, ball, claim, transfer, ticketAt, hasTicket, cancelStop, rowsOf, codeOf}
 use Rattle.house.proofs.Ledger.{All}
 
 -- ---- Bool tests
@@ -116,11 +116,7 @@ operands-accepted o e =
       charge = ltb-false _ _ (p .1 .1 .1 .1 .1 .1 .1 .1 .0);
     }
 
--- ---- the seven commands
-
-pub record OpenAccepted (m : Model) (d : ℕ) : Type 0 where
-  pub later : m .day < d
-  pub waiting : isDrawing m ≡ false
+-- ---- the commands, accepted
 
 pub record SellAccepted (m : Model) (o : Operands) : Type 0 where
   pub opened : m .day ≡ 0 → ⊥
@@ -153,21 +149,12 @@ pub record ClaimAccepted (m : Model) (n : ℕ) : Type 0 where
   pub finished : isFinished (m .game) (ticketAt n (m .live)) ≡ true
   pub due : ticketAt n (m .live) .due ≡ 0 → ⊥
 
-pub record ExpireAccepted (m : Model) : Type 0 where
-  pub opened : m .day ≡ 0 → ⊥
-
 pub record TransferAccepted (m : Model) (j cents : ℕ) : Type 0 where
   pub opened : m .day ≡ 0 → ⊥
   pub jackpot : (j ≡ 6) ⊎ (j ≡ 8)
   pub waiting : isDrawing m ≡ false
   pub some : 0 < cents
   pub covered : cents ≤ m .counters .unclaimed
-
-pub open-accepted : (m : Model) (d : ℕ) → codeOf m (open′ d) ≡ 0 → OpenAccepted m d
-unfolding codeOf rowsOf
-open-accepted m d e =
-    let p = all-passed (rowsOf m (open′ d)) (omega arith) e in
-    record { later = leb-false _ _ (p .0); waiting = p .1 .0 }
 
 -- Sell's rows below those of its operands
 abbrev pub saleRows : Model → Operands → List (Bool × ℕ)
@@ -232,10 +219,6 @@ claim-accepted m n e =
       finished = not-false _ (p .1 .1 .1 .0);
       due = eqb-false _ _ (p .1 .1 .1 .1 .0);
     }
-
-pub expire-accepted : (m : Model) → codeOf m expire ≡ 0 → ExpireAccepted m
-unfolding codeOf rowsOf
-expire-accepted m e = record { opened = eqb-false _ _ (all-passed (rowsOf m expire) (omega arith) e .0) }
 
 six-or-eight : (j : ℕ) → (eqb j 6 ≡ true) ⊎ (eqb j 8 ≡ true) → (j ≡ 6) ⊎ (j ≡ 8)
 six-or-eight j (inl e) = inl (eqb-true j 6 e)

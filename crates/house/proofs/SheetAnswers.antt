@@ -9,7 +9,7 @@ use Rattle.rules.specs.Lists.{sum}
 use Rattle.house.specs.Model.{Model, fresh}
 use Rattle.house.specs.Commands.{Command, open′, sell, cancel, ball, claim, expire, transfer, codeOf, expiring, reply}
 use Rattle.house.specs.Till.{tillOf}
-use Rattle.house.specs.Sheet.{freshSheet, sheetNumber, sheetCents}
+use Rattle.house.specs.Sheet.{sheetNumber, sheetCents}
 use Rattle.house.specs.Balance.{Balanced}
 use Rattle.house.proofs.Ledger.{Orderly, houseOf, lineOf, sheetFor}
 use Rattle.house.proofs.Refusals.{cancel-accepted, claim-accepted}
@@ -35,10 +35,6 @@ answers-agree m (transfer j cents) orderly accepted = (refl, ap (λ n. n + cents
     go : (six : Bool) → cond six (m .six) (m .eight) .primary ≡ cond six (m .six .primary) (m .eight .primary)
     go true = refl
     go false = refl
-
-pub fresh-sheet : sheetFor fresh ≡ freshSheet
-unfolding tillOf sum
-fresh-sheet = refl
 
 pub balanced-fresh : Balanced (tillOf fresh)
 unfolding tillOf sum

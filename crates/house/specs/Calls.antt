@@ -7,7 +7,7 @@ use Rattle.house.specs.Model.{fresh}
 use Rattle.house.specs.Commands.{Command, Answer}
 use Rattle.house.specs.Till.{tillOf}
 use Rattle.house.specs.Claims.{sheetOf}
-use Rattle.house.specs.Balance.{run, answerAfter, TillBalances}
+use Rattle.house.specs.Balance.{run, answerAfter, TillBalances, Reached}
 use Rattle.house.specs.View.{view}
 use Rattle.house.specs.Parts.{Carried}
 use Rattle.house.specs.declared.state.House.{House}
@@ -26,6 +26,8 @@ pub record CallsBalance (cs : List Command) (h : House) (words marks : List ℕ)
   pub house : view h words marks ≡ run cs .house
   pub till : TillBalances cs
   pub figures : tillOf (view h words marks) ≡ sheetOf (run cs .log) .figures
+  -- so that every call may be made
+  pub reached : Reached (view h words marks)
   -- and what the next call answers is the list's answer to it
   pub answer :
       (c : Command) (after : House) (words′ marks′ : List ℕ) (a : Answer)

@@ -1,4 +1,4 @@
--- "Every callable part states the house after it, its answer and the buffers it was lent as a definition's value, refusals included." The house
+-- "Every callable part states the house after it, its answer and the buffers it was lent as a definition's value, refusals included [..]." The house
 -- that a caller keeps is the struct with the words and marks that it lends; a part may rely on its coming from a fresh one by commands.
 use mathlib.Core.Path.{_≡_}
 use mathlib.Core.List.{List}

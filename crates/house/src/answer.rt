@@ -31,6 +31,7 @@ pub fn refused(house: House, code: u8) -> Outcome
     }
 }
 
+// A command carried out: code 0, and what it answers.
 pub fn accepted(house: House, number: u32, cents: u64) -> Outcome
     ensures { λ r. ⌜ (r .house ≡ house) × (r .answer ≡ record { code = 0; number = number; cents = cents }) ⌝ }
 {

@@ -33,15 +33,19 @@ pub struct House {
 }
 
 impl House {
-    // Guarantees of the two jackpots, in cents.
+    // The guarantee of the jackpot for 6 numbers, in cents.
     pub const GUARANTEE_OF_SIX: u64 = 100_000;
 
+    // The guarantee of the jackpot for 8 numbers, in cents.
     pub const GUARANTEE_OF_EIGHT: u64 = 1_250_000;
-    // The most live tickets, tickets ever issued, and games ever played.
+
+    // The most live tickets.
     pub const LIVE_LIMIT: u64 = 200;
 
+    // The most tickets ever issued.
     pub const TICKET_LIMIT: u64 = 9_999_999;
 
+    // The last game.
     pub const GAME_LIMIT: u64 = 9_999_999;
 
     // A house in which nothing has happened, whatever the lent buffers hold.

@@ -1,5 +1,5 @@
--- The table of commands: "01h Open: day (2); 02h Sell: kind (1), games (1), stake (4), groups (1), types (1), marks (80); 03h Cancel: ticket (4);
--- 04h Ball: number (1); 05h Claim: ticket (4); 06h Expire; 07h Transfer: jackpot 6 or 8 (1), cents (4)", and "writes 14 bytes each [..]: command
+-- The table of commands: 01h "Open: day (2)"; 02h "Sell: kind (1), games (1), stake (4), groups (1), types (1), marks (80)"; 03h "Cancel: ticket (4)";
+-- 04h "Ball: number (1)"; 05h "Claim: ticket (4)"; 06h "Expire"; 07h "Transfer: jackpot 6 or 8 (1), cents (4)". And "writes 14 bytes each [..]: command
 -- byte, code (0 or the refusal), number (4), cents (8)".
 use Prim.Native.Nat.{ℕ}
 use mathlib.Core.Bool.{Bool, cond, _&&_}

@@ -1,7 +1,7 @@
 -- "The reader runs commands from a lent roll and writes 14 bytes each into a lent answer book [..]. A refused command is answered and reading
 -- goes on. It reports the stop code, bytes read and answers written, and hands back the unread part of the roll. Bytes read are those of the
--- answered commands [..]. The book beyond its answers is untouched. Stop 0: end of roll. 1 unknown byte; 2 too few bytes left; 3 under 14 bytes
--- free in the book".
+-- answered commands [..]. The book beyond its answers is untouched. Stop 0: end of roll." The other stops: "1 unknown byte; 2 too few bytes
+-- left; 3 under 14 bytes free in the book".
 use Prim.Native.Nat.{ℕ, zero, suc, _+_}
 use mathlib.Core.Path.{_≡_}
 use mathlib.Core.Bool.{cond, not}

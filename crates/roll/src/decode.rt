@@ -83,7 +83,7 @@ fn is_known(byte: u8) -> bool
 }
 
 // What stands at a place: nothing (0), an unknown byte (1), too few bytes (2) or a whole command.
-pub fn decode(roll: &[u8], at: usize) -> Decoded
+pub(crate) fn decode(roll: &[u8], at: usize) -> Decoded
     ensures { λ r. ⌜ r ≡ decodedAt (drop at (now (roll .entry))) ⌝ }
 {
     if roll.len() <= at {

@@ -18,7 +18,7 @@ fn write_four(book: &mut [u8], at: usize, number: u32)
 }
 
 // An answer's record at the start of a part of the book.
-pub fn write_record(book: &mut [u8], byte: u8, code: u8, number: u32, cents: u64)
+pub(crate) fn write_record(book: &mut [u8], byte: u8, code: u8, number: u32, cents: u64)
     requires { ⌜ 14 ≤ length (now book) ⌝ }
     ensures { λ _. ⌜ now (book .exit) ≡ recordOf byte (record { code = code; number = number; cents = cents }) ++ drop 14 (now (book .entry)) ⌝ }
 {

@@ -11,8 +11,8 @@ use lib.Dec.{leb}
 use lib.ListN.{length}
 use borrow.Author.Tests.{ltb-false, le-leb, leb-true, leb-false}
 use Rattle.rules.specs.Lists.{sum, keep}
-use Rattle.rules.specs.Prize.{prizeLimit, majorFloor, isMajor}
-use Rattle.rules.specs.Cut.{floorCount, cutBase, joins, flooredOf, cutPrize, payout}
+use Rattle.rules.specs.Prize.{majorFloor, isMajor}
+use Rattle.rules.specs.Cut.{majorsLimit, floorCount, cutBase, joins, flooredOf, cutPrize, payout}
 use Rattle.rules.specs.Found.{sureOf}
 use Rattle.rules.proofs.KeepLaws.{sum-within}
 use Rattle.rules.proofs.CutRounds.{rounds-end}
@@ -113,17 +113,17 @@ module _ (ps : List ℕ) where
       go : (j : Bool) → joins ps (flooredOf ps) p ≡ j → base + p * floored ≤ p * 250
       go true d = absurd (false≢true (sym outside ∙ rounds-end ps p m d))
       go false d =
-          let test : majorFloor * base + p * (majorFloor * floored) ≤ p * prizeLimit = ltb-false _ _ d in
+          let test : majorFloor * base + p * (majorFloor * floored) ≤ p * majorsLimit = ltb-false _ _ d in
           let units : p * (majorFloor * floored) ≡ majorFloor * (p * floored) = mul-left-comm p majorFloor floored in
           omega arith
 
   -- so that its part of A
   part : (p : ℕ) → List·Memᴰ p ps → 0 < p → flooredOf ps p ≡ false
-      → p * (prizeLimit - majorFloor * floored) ≡ majorFloor * (p * 250 - p * floored)
+      → p * (majorsLimit - majorFloor * floored) ≡ majorFloor * (p * 250 - p * floored)
   part p m positive outside =
-      let few : majorFloor * floored < prizeLimit = share-above-zero ps p m positive outside in
+      let few : majorFloor * floored < majorsLimit = share-above-zero ps p m positive outside in
       let left : ℕ = 250 - floored in
-      let shared : prizeLimit - majorFloor * floored ≡ majorFloor * left = omega arith in
+      let shared : majorsLimit - majorFloor * floored ≡ majorFloor * left = omega arith in
       let whole : p * 250 ≡ p * left + p * floored = ap (λ (n : ℕ). p * n) (omega arith) ∙ mul-add p left floored in
       ap (λ (n : ℕ). p * n) shared ∙ mul-left-comm p majorFloor left ∙ ap (λ (n : ℕ). majorFloor * n) (omega arith)
 
@@ -171,7 +171,7 @@ module _ (ps : List ℕ) where
             rw e
             (ap (λ (n : ℕ). n / base) (part p m positive e ∙ ap (λ (n : ℕ). majorFloor * n) equal) ∙ mul-div-cancel majorFloor some)
 
-    many-uncut : sum ps ≤ prizeLimit → (p : ℕ) → List·Memᴰ p ps → p ≡ majorFloor
+    many-uncut : sum ps ≤ majorsLimit → (p : ℕ) → List·Memᴰ p ps → p ≡ majorFloor
     many-uncut within p m =
         let spare = spared 0 1 majorFloor ps (λ x k. omega (arith, large x k)) p m in
         le-antisymm (omega arith) (large p m)
@@ -179,16 +179,16 @@ module _ (ps : List ℕ) where
     -- where there are 250 or more, each gets exactly the floor
     pub payout-many : (p : ℕ) → List·Memᴰ p ps → payout ps p ≡ majorFloor
     unfolding payout
-    payout-many p m = rw (le-leb majorFloor p (large p m)) (go (leb (sum ps) prizeLimit) refl)
+    payout-many p m = rw (le-leb majorFloor p (large p m)) (go (leb (sum ps) majorsLimit) refl)
       where
-        go : (t : Bool) → leb (sum ps) prizeLimit ≡ t → cond t p (cutPrize ps p) ≡ majorFloor
-        go true e = many-uncut (leb-true (sum ps) prizeLimit e) p m
+        go : (t : Bool) → leb (sum ps) majorsLimit ≡ t → cond t p (cutPrize ps p) ≡ majorFloor
+        go true e = many-uncut (leb-true (sum ps) majorsLimit e) p m
         go false e = many-cut p m
 
 -- a major prize of the game is paid at least the floor
 pub payout-floor : (ps : List ℕ) (p : ℕ) → List·Memᴰ p ps → majorFloor ≤ p → majorFloor ≤ payout ps p
 unfolding payout
-payout-floor ps p m major = rw (le-leb majorFloor p major) (go (leb (sum ps) prizeLimit))
+payout-floor ps p m major = rw (le-leb majorFloor p major) (go (leb (sum ps) majorsLimit))
   where
     go : (t : Bool) → majorFloor ≤ cond t p (cutPrize ps p)
     go true = major

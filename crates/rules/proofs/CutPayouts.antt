@@ -9,8 +9,8 @@ use native.Mathlib.Omega.{arith}
 use lib.Dec.{ltb, leb}
 use borrow.Author.Tests.{ltb-true, ltb-false, le-leb, lt-leb, leb-true, leb-false}
 use Rattle.rules.specs.Lists.{sum}
-use Rattle.rules.specs.Prize.{prizeLimit, majorFloor, isMajor}
-use Rattle.rules.specs.Cut.{floorCount, cutBase, joins, flooredOf, cutPrize, payout}
+use Rattle.rules.specs.Prize.{majorFloor, isMajor}
+use Rattle.rules.specs.Cut.{majorsLimit, floorCount, cutBase, joins, flooredOf, cutPrize, payout}
 use Rattle.rules.proofs.KeepLaws.{member-le-sum}
 use Rattle.rules.proofs.CutRounds.{rounds-end}
 use Rattle.rules.proofs.CutStates.{outside-le-base}
@@ -21,9 +21,9 @@ unfolding payout
 payout-minor ps p h = rw (lt-leb majorFloor p h)
 
 -- and so is every prize of a game whose major prizes do not pass the limit
-pub payout-uncut : (ps : List ℕ) (p : ℕ) → sum ps ≤ prizeLimit → payout ps p ≡ p
+pub payout-uncut : (ps : List ℕ) (p : ℕ) → sum ps ≤ majorsLimit → payout ps p ≡ p
 unfolding payout
-payout-uncut ps p h = rw (le-leb (sum ps) prizeLimit h) (go (isMajor p))
+payout-uncut ps p h = rw (le-leb (sum ps) majorsLimit h) (go (isMajor p))
   where
     go : (t : Bool) → cond t p p ≡ p
     go true = refl
@@ -31,30 +31,30 @@ payout-uncut ps p h = rw (le-leb (sum ps) prizeLimit h) (go (isMajor p))
 
 -- A is above zero where a prize stands outside F, so that the definition's difference is A: such a prize is at most B, and does not join
 pub share-above-zero : (ps : List ℕ) (p : ℕ) → List·Memᴰ p ps → 0 < p → flooredOf ps p ≡ false →
-    majorFloor * floorCount (flooredOf ps) ps < prizeLimit
+    majorFloor * floorCount (flooredOf ps) ps < majorsLimit
 unfolding joins
-share-above-zero ps p m positive outside = go (ltb prizeLimit (suc taken)) refl (joins ps (flooredOf ps) p) refl
+share-above-zero ps p m positive outside = go (ltb majorsLimit (suc taken)) refl (joins ps (flooredOf ps) p) refl
   where
     taken : ℕ
     taken = majorFloor * floorCount (flooredOf ps) ps
 
-    go : (t : Bool) → ltb prizeLimit (suc taken) ≡ t → (j : Bool) → joins ps (flooredOf ps) p ≡ j → taken < prizeLimit
-    go false e j d = ltb-false prizeLimit (suc taken) e
+    go : (t : Bool) → ltb majorsLimit (suc taken) ≡ t → (j : Bool) → joins ps (flooredOf ps) p ≡ j → taken < majorsLimit
+    go false e j d = ltb-false majorsLimit (suc taken) e
     go true e true d = absurd (false≢true (sym outside ∙ rounds-end ps p m d))
     go true e false d =
-        let most : p * prizeLimit ≤ p * taken = mul-le-mul-left p (omega (arith, ltb-true prizeLimit (suc taken) e)) in
+        let most : p * majorsLimit ≤ p * taken = mul-le-mul-left p (omega (arith, ltb-true majorsLimit (suc taken) e)) in
         let part : p ≤ cutBase (flooredOf ps) ps = outside-le-base ps (flooredOf ps) p m outside in
-        absurd (omega (arith, ltb-false (p * prizeLimit) (majorFloor * cutBase (flooredOf ps) ps + p * taken) d))
+        absurd (omega (arith, ltb-false (p * majorsLimit) (majorFloor * cutBase (flooredOf ps) ps + p * taken) d))
 
 -- the floored get 20,000, and the others no more than A, each being a part of B
-cut-le : (ps : List ℕ) (p : ℕ) → List·Memᴰ p ps → cutPrize ps p ≤ prizeLimit
+cut-le : (ps : List ℕ) (p : ℕ) → List·Memᴰ p ps → cutPrize ps p ≤ majorsLimit
 unfolding cutPrize
 cut-le ps p m = go (flooredOf ps p) refl
   where
     left : ℕ
-    left = prizeLimit - majorFloor * floorCount (flooredOf ps) ps
+    left = majorsLimit - majorFloor * floorCount (flooredOf ps) ps
 
-    go : (t : Bool) → flooredOf ps p ≡ t → cutPrize ps p ≤ prizeLimit
+    go : (t : Bool) → flooredOf ps p ≡ t → cutPrize ps p ≤ majorsLimit
     go true e = rw e (omega arith)
     go false e =
         let part : p * left / cutBase (flooredOf ps) ps ≤ left =
@@ -62,16 +62,12 @@ cut-le ps p m = go (flooredOf ps p) refl
         rw e (le-trans part (omega arith))
 
 -- no prize of the game is paid more than the limit
-pub payout-le : (ps : List ℕ) (p : ℕ) → List·Memᴰ p ps → payout ps p ≤ prizeLimit
+pub payout-le : (ps : List ℕ) (p : ℕ) → List·Memᴰ p ps → payout ps p ≤ majorsLimit
 unfolding payout
-payout-le ps p m = go (isMajor p) refl (leb (sum ps) prizeLimit) refl
+payout-le ps p m = go (isMajor p) refl (leb (sum ps) majorsLimit) refl
   where
-    go : (s : Bool) → isMajor p ≡ s → (t : Bool) → leb (sum ps) prizeLimit ≡ t → payout ps p ≤ prizeLimit
-    go true d true e = rw (d, e) (le-trans (member-le-sum ps p m) (leb-true (sum ps) prizeLimit e))
+    go : (s : Bool) → isMajor p ≡ s → (t : Bool) → leb (sum ps) majorsLimit ≡ t → payout ps p ≤ majorsLimit
+    go true d true e = rw (d, e) (le-trans (member-le-sum ps p m) (leb-true (sum ps) majorsLimit e))
     go true d false e = rw (d, e) (cut-le ps p m)
     go false d true e = rw d (omega (arith, leb-false majorFloor p d))
     go false d false e = rw d (omega (arith, leb-false majorFloor p d))
-
--- equal prizes are paid alike
-pub payout-alike : (ps : List ℕ) (p q : ℕ) → p ≡ q → payout ps p ≡ payout ps q
-payout-alike ps p q e = ap (payout ps) e

@@ -88,11 +88,6 @@ pub rounds-end : (ps : List ℕ) (p : ℕ) → List·Memᴰ p ps → joins ps (f
 unfolding flooredOf rounds roundOf
 rounds-end ps p m h = sym (stable-at-length ps p m) ∙ rw h (or-true (rounds (length ps) ps p))
 
--- one round more changes F for no member
-pub round-once-more : (ps : List ℕ) → Agree ps (roundOf ps (flooredOf ps)) (flooredOf ps)
-unfolding flooredOf rounds
-round-once-more ps = stable-at-length ps
-
 -- the first round that changes nothing gives F
 pub stable-floored : (n : ℕ) (ps : List ℕ) → Stable n ps → Agree ps (flooredOf ps) (rounds n ps)
 unfolding flooredOf

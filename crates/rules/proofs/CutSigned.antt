@@ -10,8 +10,8 @@ use lib.Dec.{ltb}
 use lib.IntN.{pos, negℤ, _-ℤ_, _*ℤ_, subℕ}
 use lib.Signed.{ltZ}
 use borrow.Author.Tests.{lt-ltb, ltb-true, ltb-false}
-use Rattle.rules.specs.Prize.{prizeLimit, majorFloor}
-use Rattle.rules.specs.Cut.{Floored, floorCount, cutBase, joins}
+use Rattle.rules.specs.Prize.{majorFloor}
+use Rattle.rules.specs.Cut.{majorsLimit, Floored, floorCount, cutBase, joins}
 use Rattle.rules.proofs.KeepLaws.{ltb-same}
 
 -- -x < n
@@ -43,6 +43,6 @@ signed-test p a (suc d) n = go (ltb a (suc d)) refl
 
 -- "Every p outside F with p × A < 20,000 × B joins F", A = 5,000,000 - 20,000 × size of F
 pub joins-signed : (ps : List ℕ) (f : Floored) (p : ℕ) →
-    joins ps f p ≡ ltZ (pos p *ℤ (pos prizeLimit -ℤ pos majorFloor *ℤ pos (floorCount f ps))) (pos majorFloor *ℤ pos (cutBase f ps))
+    joins ps f p ≡ ltZ (pos p *ℤ (pos majorsLimit -ℤ pos majorFloor *ℤ pos (floorCount f ps))) (pos majorFloor *ℤ pos (cutBase f ps))
 unfolding joins
-joins-signed ps f p = sym (signed-test p prizeLimit (majorFloor * floorCount f ps) (majorFloor * cutBase f ps))
+joins-signed ps f p = sym (signed-test p majorsLimit (majorFloor * floorCount f ps) (majorFloor * cutBase f ps))

@@ -10,11 +10,11 @@ use lib.Dec.{ltb, leb}
 use lib.ListN.{length}
 use borrow.Author.Tests.{ltb-true, ltb-false, lt-ltb, le-ltb, le-leb, lt-leb, leb-true, leb-false}
 use Rattle.rules.specs.Lists.{sum, keep}
-use Rattle.rules.specs.Prize.{prizeLimit, majorFloor}
-use Rattle.rules.specs.Cut.{Floored, floorCount, cutBase, joins, roundOf, rounds, flooredOf, cutPrize, payout}
+use Rattle.rules.specs.Prize.{majorFloor}
+use Rattle.rules.specs.Cut.{majorsLimit, Floored, floorCount, cutBase, joins, roundOf, rounds, flooredOf, cutPrize, payout}
 use Rattle.rules.specs.Rounds.{firstCut, shareable, payUnder, nextBelow}
 use Rattle.rules.specs.declared.cut.Cut.{Cut}
-use Rattle.rules.proofs.KeepLaws.{Agree, ltb-same, leb-not-ltb, keep-agree, keep-none, keep-all, length-keep-le, sum-keep-split, kept-le-sum}
+use Rattle.rules.proofs.KeepLaws.{Agree, ltb-same, leb-not-ltb, keep-agree, keep-none, keep-all, length-keep-le, kept-le-sum}
 use Rattle.rules.proofs.CutRounds.{floorCount-agree, cutBase-agree, count-grows, stable-by-count, stable-floored}
 
 -- m × b / a rounded up is the sum of the two parts that the code computes
@@ -42,7 +42,7 @@ ceiling c =
 
 -- the rule's test, with B and the size of F as the state has them
 joinsUnder : Cut → ℕ → Bool
-joinsUnder c p = ltb (p * prizeLimit) (majorFloor * c .base + p * (majorFloor * c .count))
+joinsUnder c p = ltb (p * majorsLimit) (majorFloor * c .base + p * (majorFloor * c .count))
 
 -- of a prize that is a part of B
 joins-ceiling : (c : Cut) (p : ℕ) → 0 < p → p ≤ c .base → joinsUnder c p ≡ ltb p (ceiling c)
@@ -51,18 +51,18 @@ joins-ceiling c p pos le = go (leb 250 (c .count)) refl
   where
     go : (t : Bool) → leb 250 (c .count) ≡ t → joinsUnder c p ≡ ltb p (ceiling c)
     go true e =
-        let taken : p * prizeLimit ≤ p * (majorFloor * c .count) = mul-le-mul-left p (omega (arith, leb-true 250 (c .count) e)) in
+        let taken : p * majorsLimit ≤ p * (majorFloor * c .count) = mul-le-mul-left p (omega (arith, leb-true 250 (c .count) e)) in
         rw e
-        (lt-ltb (p * prizeLimit) (majorFloor * c .base + p * (majorFloor * c .count)) (omega arith)
+        (lt-ltb (p * majorsLimit) (majorFloor * c .base + p * (majorFloor * c .count)) (omega arith)
         ∙ sym (lt-ltb p (c .base + 1) (omega arith)))
     go false e =
         let few : c .count < 250 = leb-false 250 (c .count) e in
         let some-left : 0 < shareable c = omega arith in
-        let parts : prizeLimit ≡ shareable c + majorFloor * c .count = omega arith in
-        let products : p * prizeLimit ≡ p * shareable c + p * (majorFloor * c .count) =
+        let parts : majorsLimit ≡ shareable c + majorFloor * c .count = omega arith in
+        let products : p * majorsLimit ≡ p * shareable c + p * (majorFloor * c .count) =
         ap (λ (x : ℕ). p * x) parts ∙ mul-add p (shareable c) (majorFloor * c .count) in
         rw e
-        (ltb-same (p * prizeLimit) (majorFloor * c .base + p * (majorFloor * c .count)) (p * shareable c) (majorFloor * c .base)
+        (ltb-same (p * majorsLimit) (majorFloor * c .base + p * (majorFloor * c .count)) (p * shareable c) (majorFloor * c .base)
         (λ h. omega arith)
         (λ h. omega arith)
         ∙ below-ceil (shareable c) (majorFloor * c .base) p some-left
@@ -112,11 +112,6 @@ pub outside-le-base : (ps : List ℕ) (f : Floored) (p : ℕ) → List·Memᴰ p
 unfolding cutBase
 outside-le-base ps f p m h = kept-le-sum (λ x. not (f x)) ps p m (ap not h)
 
--- and B a part of the whole
-pub state-base-le : (ps : List ℕ) (n : ℕ) (c : Cut) → StateOf ps n c → c .base ≤ sum ps
-unfolding cutBase
-state-base-le ps n c s = omega (arith, s .base, sum-keep-split (rounds n ps) ps)
-
 -- the size of F never passes that of ps, which bounds the loop that runs the rounds
 pub next-count-le : (ps : List ℕ) (c : Cut) → nextCut ps c .count ≤ length ps
 next-count-le ps c = length-keep-le (λ p. ltb p (nextBelow c)) ps
@@ -155,12 +150,12 @@ module _ (ps : List ℕ) (n : ℕ) (c : Cut) (s : StateOf ps n c) (positive : (p
     state-stop p m = last-round p m ∙ s .floors p m
 
     -- and pays what the rule pays
-    pub state-pays : prizeLimit < sum ps → (p : ℕ) → List·Memᴰ p ps → majorFloor ≤ p → payUnder c p ≡ payout ps p
+    pub state-pays : majorsLimit < sum ps → (p : ℕ) → List·Memᴰ p ps → majorFloor ≤ p → payUnder c p ≡ payout ps p
     unfolding payUnder payout cutPrize
     state-pays over p m major =
         rw (
           le-leb majorFloor p major,
-          lt-leb (sum ps) prizeLimit over,
+          lt-leb (sum ps) majorsLimit over,
           state-stop p m,
           floorCount-agree ps (flooredOf ps) (rounds n ps) last-round,
           cutBase-agree ps (flooredOf ps) (rounds n ps) last-round,

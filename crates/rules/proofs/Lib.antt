@@ -11,6 +11,7 @@ pub mod CutSigned
 pub mod CutRounds
 pub mod CutStates
 pub mod CutPayouts
+pub mod CutPlaces
 pub mod CutFloors
 pub mod MajorLaws
 pub mod FoundLaws

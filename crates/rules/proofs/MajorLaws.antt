@@ -11,7 +11,8 @@ use lib.ListN.{length, take, drop, getD, length-take, length-drop, drop-of-lengt
 use lib.Seq.{drop-cons, getD-take, getD-drop}
 use borrow.Author.Tests.{lt-ltb, le-ltb, le-leb, lt-leb}
 use Rattle.rules.specs.Lists.{sum, keep}
-use Rattle.rules.specs.Prize.{prizeLimit, majorFloor}
+use Rattle.rules.specs.Prize.{majorFloor}
+use Rattle.rules.specs.Cut.{majorsLimit}
 use Rattle.rules.specs.Rounds.{firstCut, uncut, payUnder, nextBelow, cutBelow, Pays, Listed}
 use Rattle.rules.specs.declared.cut.Cut.{Cut}
 use Rattle.rules.proofs.KeepLaws.{length-keep-le, sum-within, sum-keep-split, member-le-sum}
@@ -197,7 +198,7 @@ module _ (table : List ℕ) (count : ℕ) (l : Listed table count) where
         (omega (arith, counted), omega (arith, counted, next-count-le prizes c))
 
     -- or is the last, and the state before it pays what the rule pays
-    pub last-pays : prizeLimit < sum (take count table) → next .count ≡ c .count → Pays c (take count table)
+    pub last-pays : majorsLimit < sum (take count table) → next .count ≡ c .count → Pays c (take count table)
     last-pays past same =
         record {
           each =
@@ -205,13 +206,13 @@ module _ (table : List ℕ) (count : ℕ) (l : Listed table count) where
         }
 
   -- prizes that do not pass the limit are paid as they are
-  pub uncut-pays : sum (take count table) ≤ prizeLimit → Pays uncut (take count table)
+  pub uncut-pays : sum (take count table) ≤ majorsLimit → Pays uncut (take count table)
   unfolding payUnder
   uncut-pays within =
       record {
         each =
             λ p m.
-            let most : p ≤ prizeLimit = le-trans (member-le-sum prizes p m) within in
-            rw (le-leb majorFloor p (l .large p m), le-ltb p 0 (omega arith), le-leb p prizeLimit most)
+            let most : p ≤ majorsLimit = le-trans (member-le-sum prizes p m) within in
+            rw (le-leb majorFloor p (l .large p m), le-ltb p 0 (omega arith), le-leb p majorsLimit most)
             (mul-div-cancel p (omega arith) ∙ sym (payout-uncut prizes p within));
       }

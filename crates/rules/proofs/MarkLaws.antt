@@ -3,9 +3,8 @@ use mathlib.Core.Path.{_≡_, refl, sym, ap, ap₂, _∙_}
 use mathlib.Core.List.{List, [], _∷_, _++_, map, map-append}
 use Prim.Native.Nat.{ℕ, zero, suc, _+_, _*_, _-_, _/_, _%_, _^_, _≤_, _<_}
 use native.Mathlib.Decide.{decLt, ℕ-discrete}
-use native.Mathlib.Nat.{div-one, zero-div, pow-suc, pow-succ', pow-le-pow-right, lt-of-lt-of-le, div-div-eq-div-mul}
+use native.Mathlib.Nat.{pow-suc, pow-le-pow-right, lt-of-lt-of-le}
 use native.Mathlib.Numerals.{add-one, one-add}
-use lib.Pow.{low, high}
 use native.Mathlib.Omega.{arith}
 use lib.Dec.{eqb}
 use lib.ListN.{length, getD, set, take, drop, length-append, length-take, length-drop, length-map, length-set, List·getD-eq-default, List·getD-map, replicate}
@@ -122,17 +121,6 @@ pub hits-step : (marks balls : List ℕ) (i : ℕ) → i < length balls →
 hits-step marks balls i h = rw (add-one, take-suc balls i 0) (map-append (markOf marks) (take i balls) _)
 
 -- ---- the sizes in one word
-
--- a byte of the word is the size in its place
-pub word-byte : (xs : List ℕ) → ((i : ℕ) → getD xs i 0 < 256) → (k : ℕ) → sizeWord xs / 256 ^ k % 256 ≡ getD xs k 0
-unfolding sizeWord
-word-byte [] small k = ap (λ n. n % 256) (zero-div (256 ^ k))
-word-byte (x ∷ xs) small zero = ap (λ n. n % 256) (div-one (sizeWord xs * 256 + x)) ∙ low (sizeWord xs) 8 (small 0)
-word-byte (x ∷ xs) small (suc k) =
-    ap (λ n. (sizeWord xs * 256 + x) / n % 256) (pow-succ' 256 k)
-    ∙ ap (λ n. n % 256) (sym (div-div-eq-div-mul (sizeWord xs * 256 + x) 256 (256 ^ k)))
-    ∙ ap (λ n. n / 256 ^ k % 256) (high (sizeWord xs) 8 (small 0))
-    ∙ word-byte xs (λ i. small (suc i)) k
 
 -- eight bytes fit a word
 word-below : (xs : List ℕ) → ((i : ℕ) → getD xs i 0 < 256) → sizeWord xs < 256 ^ length xs

@@ -1,4 +1,4 @@
--- The stake's two cases, as the document words them, are one test: with the minimum at 100, "a multiple of 10 up to 100, of 100 above" is
+-- The stake's two cases, as the document words them, are one test: with the minimum at 100, "multiples of 10 up to 100, of 100 above" is
 -- "a multiple of 100".
 use mathlib.Core.Path.{_≡_, refl}
 use mathlib.Core.Bool.{Bool, true, false, cond, _&&_, _||_}

@@ -1,12 +1,10 @@
 -- Bounds on a way's prize, for every kind, selection and match: a computed test over each table bounds its cells, and so every prize.
-use mathlib.Core.Path.{_≡_}
-use mathlib.Core.Bool.{Bool, true, false, cond, true≢false}
+use mathlib.Core.Bool.{Bool, true, false, cond}
 use Prim.Native.Nat.{ℕ, _*_, _≤_, _<_, _^_}
-use native.Mathlib.Nat.{mul-le-mul, min-le-left, min-le-right}
+use native.Mathlib.Nat.{mul-le-mul, min-le-left}
 use native.Mathlib.Omega.{arith}
 use lib.Dec.{leb, eqb, leb→le}
 use Rattle.rules.specs.Lists.{every}
-use Rattle.rules.specs.Kinds.{isJackpot}
 use Rattle.rules.specs.Price.{chargeLimit}
 use Rattle.rules.specs.Schedules.{standardRows, specialOneRows, specialTwoRows}
 use Rattle.rules.specs.Prize.{prizeLimit, dollars, capped, prize}
@@ -42,9 +40,3 @@ pub prize-bound : (kind : Kind) (stake n h : ℕ) → stake ≤ chargeLimit → 
 unfolding prize
 prize-bound kind stake n h s =
     omega (arith, capped-le kind (dollars kind n h * stake), mul-le-mul (dollars-bound kind n h) s)
-
-pub prize-limit : (kind : Kind) (stake n h : ℕ) → isJackpot kind ≡ false → prize kind stake n h ≤ prizeLimit
-unfolding prize
-prize-limit Standard stake n h e = min-le-right _ prizeLimit
-prize-limit Jackpot stake n h e = absurd (true≢false e)
-prize-limit (Special s) stake n h e = min-le-right _ prizeLimit

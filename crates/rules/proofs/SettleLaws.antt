@@ -11,12 +11,13 @@ use lib.ListN.{length, length-map}
 use borrow.Author.Tests.{leb-true, leb-false, eqb-true, eq-eqb}
 use Rattle.rules.specs.Lists.{sum, keep, any, member}
 use Rattle.rules.specs.Ways.{sizes, ways}
-use Rattle.rules.specs.Prize.{prizeLimit, majorFloor, isMajor}
-use Rattle.rules.specs.Cut.{payout}
+use Rattle.rules.specs.Prize.{majorFloor, isMajor}
+use Rattle.rules.specs.Cut.{majorsLimit, payout}
 use Rattle.rules.specs.Jackpots.{guaranteeOfSix, guaranteeOfEight, pooled, contribution, contributed, jackpotWon, jackpotShares, seedOf, reseeded, repaidOf, repaid}
 use Rattle.rules.specs.Settle.{Entry, prizesBy, wayPrizes, jackpotBy, winnerOf, paidFor, majorsOf, prizesOf, settleJackpot, settle}
 use Rattle.rules.specs.declared.terms.Draw.{Draw}
 use Rattle.rules.specs.declared.jackpot.Jackpot.{Jackpot}
+use Rattle.rules.proofs.CutPayouts.{payout-minor}
 use Rattle.rules.proofs.KeepLaws.{sum-within}
 use Rattle.rules.proofs.ShareLaws.{won-shares, no-shares, length-shares}
 
@@ -75,11 +76,6 @@ module _ (guarantee paid : ℕ) (before : Jackpot) where
   owed true = omega arith
   owed false = omega arith
 
-  repaid-from : (won : Bool) → repaidOf (reseeded won guarantee grown) ≤ before .reimbursement + contribution paid
-  unfolding contribution contributed reseeded
-  repaid-from true = omega arith
-  repaid-from false = omega arith
-
 -- one jackpot's part of a game
 module _ (j guarantee : ℕ) (draw : Draw) (before : Jackpot) (es : List Entry) where
   abbrev won : Bool
@@ -136,15 +132,6 @@ module _ (j guarantee : ℕ) (draw : Draw) (before : Jackpot) (es : List Entry) 
   pub jackpot-contributions-within : 4 * settleJackpot j guarantee draw before es .contributions ≤ paidFor j es
   unfolding settleJackpot
   jackpot-contributions-within = contribution-within (paidFor j es)
-
-  pub jackpot-repaid-within :
-      settleJackpot j guarantee draw before es .repaid
-      ≤ before .reimbursement + settleJackpot j guarantee draw before es .contributions
-  unfolding settleJackpot
-  jackpot-repaid-within = repaid-from guarantee (paidFor j es) before won
-
-  pub jackpot-debt-within : settleJackpot j guarantee draw before es .after .debt ≤ before .debt + guarantee
-  jackpot-debt-within = omega (arith, jackpot-debt, jackpot-seed-within)
 
 -- no entry plays for both jackpots
 one-jackpot : (x paid : ℕ) → cond (eqb x 6) paid 0 + cond (eqb x 8) paid 0 ≤ paid
@@ -249,21 +236,6 @@ module _ (draw : Draw) (six eight : Jackpot) (es : List Entry) where
   seeds-within =
       omega (arith, jackpot-seed-within 6 guaranteeOfSix draw six es, jackpot-seed-within 8 guaranteeOfEight draw eight es)
 
-  pub repaid-within :
-      settle draw six eight es .repaid
-      ≤ six .reimbursement + eight .reimbursement + settle draw six eight es .contributions
-  unfolding settle
-  repaid-within =
-      omega (arith, jackpot-repaid-within 6 guaranteeOfSix draw six es, jackpot-repaid-within 8 guaranteeOfEight draw eight es)
-
-  pub six-debt-within : settle draw six eight es .six .debt ≤ six .debt + guaranteeOfSix
-  unfolding settle
-  six-debt-within = jackpot-debt-within 6 guaranteeOfSix draw six es
-
-  pub eight-debt-within : settle draw six eight es .eight .debt ≤ eight .debt + guaranteeOfEight
-  unfolding settle
-  eight-debt-within = jackpot-debt-within 8 guaranteeOfEight draw eight es
-
 -- the second half of a test is enough
 or-right : (t u : Bool) → u ≡ true → (t || u) ≡ true
 or-right true u held = refl
@@ -317,11 +289,6 @@ unfolding prizesOf
 prizes-of-within majors draw e most each =
     rw (← way-prizes-count draw e) (sum-within (payout majors) most (wayPrizes draw e) (λ p m. each p (member-of m)))
 
--- a prize below the floor is not cut
-pub minor-uncut : (ps : List ℕ) (p : ℕ) → isMajor p ≡ false → payout ps p ≡ p
-unfolding payout
-minor-uncut ps p minor = rw minor
-
 -- a major prize of an entry is among those of the game
 pub entry-major : (draw : Draw) (e : Entry) (es : List Entry) (p : ℕ) → List·Memᴰ e es →
     member p (wayPrizes draw e) ≡ true → isMajor p ≡ true → member p (majorsOf draw es) ≡ true
@@ -333,26 +300,26 @@ entry-major draw e (x ∷ es) p (List·Memᴰ·tail later) m major =
     member-right p (keep isMajor (wayPrizes draw x)) (majorsOf draw es) (entry-major draw e es p later m major)
 
 -- where a game's major prizes pay no more than the limit each
-module _ (cut-within : (ps : List ℕ) (p : ℕ) → member p ps ≡ true → majorFloor ≤ p → payout ps p ≤ prizeLimit) where
+module _ (cut-within : (ps : List ℕ) (p : ℕ) → member p ps ≡ true → majorFloor ≤ p → payout ps p ≤ majorsLimit) where
   -- then so do all prizes
   pub way-within : (draw : Draw) (es : List Entry) (e : Entry) → List·Memᴰ e es →
-      (p : ℕ) → member p (wayPrizes draw e) ≡ true → payout (majorsOf draw es) p ≤ prizeLimit
+      (p : ℕ) → member p (wayPrizes draw e) ≡ true → payout (majorsOf draw es) p ≤ majorsLimit
   way-within draw es e among p m = go (isMajor p) refl
     where
-      go : (t : Bool) → isMajor p ≡ t → payout (majorsOf draw es) p ≤ prizeLimit
+      go : (t : Bool) → isMajor p ≡ t → payout (majorsOf draw es) p ≤ majorsLimit
       go true major = cut-within (majorsOf draw es) p (entry-major draw e es p among m major) (leb-true majorFloor p major)
-      go false minor = omega (arith, minor-uncut (majorsOf draw es) p minor, leb-false majorFloor p minor)
+      go false minor = omega (arith, payout-minor (majorsOf draw es) p (leb-false majorFloor p minor), leb-false majorFloor p minor)
 
   -- an entry's prizes are within the limit for each of its ways
   pub entry-within : (draw : Draw) (es : List Entry) (e : Entry) → List·Memᴰ e es →
-      prizesOf (majorsOf draw es) draw e ≤ length (ways (e .terms .groups) (e .terms .types)) * prizeLimit
-  entry-within draw es e among = prizes-of-within (majorsOf draw es) draw e prizeLimit (way-within draw es e among)
+      prizesOf (majorsOf draw es) draw e ≤ length (ways (e .terms .groups) (e .terms .types)) * majorsLimit
+  entry-within draw es e among = prizes-of-within (majorsOf draw es) draw e majorsLimit (way-within draw es e among)
 
   -- and the game's within that of each entry, of which none has more than so many ways
   pub prizes-within : (draw : Draw) (six eight : Jackpot) (es : List Entry) (most : ℕ) →
       ((e : Entry) → List·Memᴰ e es → length (ways (e .terms .groups) (e .terms .types)) ≤ most) →
-      settle draw six eight es .prizes ≤ length es * (most * prizeLimit)
+      settle draw six eight es .prizes ≤ length es * (most * majorsLimit)
   unfolding settle
   prizes-within draw six eight es most few =
-      sum-within (prizesOf (majorsOf draw es) draw) (most * prizeLimit) es
-      (λ e among. le-trans (entry-within draw es e among) (mul-le-mul-right prizeLimit (few e among)))
+      sum-within (prizesOf (majorsOf draw es) draw) (most * majorsLimit) es
+      (λ e among. le-trans (entry-within draw es e among) (mul-le-mul-right majorsLimit (few e among)))

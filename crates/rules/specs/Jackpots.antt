@@ -1,8 +1,8 @@
 -- "Two, for 6 and 8 numbers, with guarantees 100,000 and 1,250,000. Each has a primary, a secondary and a reimbursement pool and a seed
--- debt. Each paid stake dollar of a drawn kind 1 game gives 25 cents to its jackpot: 15, 5, 5 [..]. Each full match shares the primary in
--- proportion to stake, rounded down; odd cents go one to each winning way, tickets in number order. If there was a winner: the secondary
--- moves into the primary, and the house adds a seed up to the guarantee, which joins the debt. Last, reimbursement pays the house as much
--- of the debt as it can, winner or none."
+-- debt. Each paid stake dollar of a drawn kind 1 game gives 25 cents to its jackpot: 15, 5, 5 [..]. At the twentieth ball, in this order:
+-- contributions; prizes and cuts; each full match shares the primary in proportion to stake, rounded down; odd cents go one to each winning
+-- way, tickets in number order. If there was a winner: the secondary moves into the primary, and the house adds a seed up to the guarantee,
+-- which joins the debt. Last, reimbursement pays the house as much of the debt as it can, winner or none."
 use Prim.Native.Nat.{ℕ, _+_, _*_, _-_, _/_, min}
 use mathlib.Core.Bool.{Bool, cond}
 use mathlib.Core.List.{List, [], _∷_, map}

@@ -8,7 +8,7 @@ use Rattle.rules.specs.declared.terms.Kind.{Kind}
 use Rattle.rules.specs.declared.terms.Kind.the-variants.{Standard, Jackpot, Special}
 use Rattle.rules.specs.declared.terms.Schedule.the-variants.{One, Two}
 
--- the most for a way, and for the major prizes of a game together
+-- the most for a way (rule 12.2)
 abbrev pub prizeLimit : ℕ
 prizeLimit = 5000000
 

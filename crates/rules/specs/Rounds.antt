@@ -7,8 +7,8 @@ use mathlib.Core.List.{List, List·Memᴰ}
 use lib.Dec.{ltb, leb}
 use lib.ListN.{length, take, drop}
 use Rattle.rules.specs.Lists.{sum, keep}
-use Rattle.rules.specs.Prize.{prizeLimit, majorFloor, isMajor}
-use Rattle.rules.specs.Cut.{payout}
+use Rattle.rules.specs.Prize.{majorFloor, isMajor}
+use Rattle.rules.specs.Cut.{majorsLimit, payout}
 use Rattle.rules.specs.declared.cut.Cut.{Cut}
 
 -- F empty, and B the sum of all major prizes
@@ -17,11 +17,11 @@ firstCut base = record { below = 0; count = 0; base = base }
 
 -- F empty, and every prize its own part of the limit, so that it is paid in full
 abbrev pub uncut : Cut
-uncut = record { below = 0; count = 0; base = prizeLimit }
+uncut = record { below = 0; count = 0; base = majorsLimit }
 
 -- A, or 0 where it is below zero
 abbrev pub shareable : Cut → ℕ
-shareable c = prizeLimit - majorFloor * c .count
+shareable c = majorsLimit - majorFloor * c .count
 
 -- what a prize pays under such a state. A prize outside F is a part of B, so that it is no more than B.
 unfoldable pub payUnder : Cut → ℕ → ℕ
@@ -58,7 +58,7 @@ pub record Listed (table : List ℕ) (count : ℕ) : Type 0 where
 -- prizes that make so many cents, which pass the limit
 pub record PastLimit (ps : List ℕ) (cents : ℕ) : Type 0 where
   pub total : cents ≡ sum ps
-  pub past : prizeLimit < cents
+  pub past : majorsLimit < cents
 
 -- prizes of a table, from a place on and so many, that are paid from the floor to the limit
 pub record Raisable (c : Cut) (table : List ℕ) (from many : ℕ) : Type 0 where
@@ -66,4 +66,4 @@ pub record Raisable (c : Cut) (table : List ℕ) (from many : ℕ) : Type 0 wher
   pub long : length table ≡ 250
   pub small : (p : ℕ) → List·Memᴰ p (take many (drop from table)) → p < 2 ^ 40
   pub least : (p : ℕ) → List·Memᴰ p (take many (drop from table)) → majorFloor ≤ payUnder c p
-  pub most : (p : ℕ) → List·Memᴰ p (take many (drop from table)) → payUnder c p ≤ prizeLimit
+  pub most : (p : ℕ) → List·Memᴰ p (take many (drop from table)) → payUnder c p ≤ majorsLimit

@@ -1,6 +1,6 @@
--- "At the twentieth ball, in this order: contributions; prizes and cuts; each full match shares the primary [..]; the secondary moves into
--- the primary, and the house adds a seed [..]. Last, reimbursement pays the house": one game, from the tickets that run in it to what each
--- of them is due.
+-- "At the twentieth ball, in this order: contributions; prizes and cuts; each full match shares the primary [..]. If there was a winner: the
+-- secondary moves into the primary, and the house adds a seed [..]. Last, reimbursement pays the house [..]": one game, from the tickets that run in
+-- it to what each of them is due.
 use Prim.Native.Nat.{ℕ, _+_}
 use mathlib.Core.Bool.{Bool, cond}
 use mathlib.Core.List.{List, [], _∷_, _++_, map, zipWith}

@@ -1,5 +1,5 @@
 -- "A ticket marks numbers 1 to 80 in 80 bytes: byte i holds 0 (unmarked) or the group, 1 to g, of number i. [..] The types byte
--- nominates group counts: bit k-1 (worth 2^(k-1)) means every combination of exactly k groups. Each combination is a way."
+-- nominates group counts: bit k-1 (worth 2^(k-1)) means every combination of exactly k groups. Each combination is a way [..]."
 use Prim.Native.Nat.{ℕ, zero, suc, _+_, _*_, _/_, _%_, _^_}
 use mathlib.Core.Bool.{Bool, false}
 use mathlib.Core.List.{List, [], _∷_, map}

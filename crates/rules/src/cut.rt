@@ -23,7 +23,7 @@ impl Cut {
         }
     }
 
-    // The state under which no prize is cut: each is its own part of the limit.
+    // The state under which no prize is cut: each is its own part of the most for a game, 5,000,000 (rule 12.3).
     pub fn none() -> Cut
         ensures { λ r. ⌜ r ≡ uncut ⌝ }
     {
@@ -34,7 +34,7 @@ impl Cut {
         }
     }
 
-    // What the prizes outside the floored share, 0 where the floored take it all.
+    // What the prizes outside the floored share of the most for a game (rule 12.3), 0 where the floored take it all.
     fn shareable(self) -> u64
         ensures { λ r. ⌜ r ≡ Rattle.rules.specs.Rounds.shareable self ⌝ }
     {

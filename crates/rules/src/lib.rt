@@ -1,7 +1,7 @@
 // The rule book: everything of document 01 that needs no house.
 pub mod check;
 pub mod cut;
-pub mod figures;
+mod figures;
 pub mod found;
 pub mod jackpot;
 pub mod majors;

@@ -62,7 +62,8 @@ fn last_round(majors: &[u64; 250], count: usize, total: u64) -> Cut
     }
 }
 
-// The state of the cut under which the first prizes of the table are paid what the rule says.
+// The state of the cut under which the first prizes of the table are paid what the rule says. They are cut where they pass the most for a game,
+// 5,000,000 (rule 12.3).
 pub fn cut_of(majors: &[u64; 250], count: usize) -> Cut
     requires { ⌜ Listed (now majors) count ⌝ }
     ensures { λ r. ⌜ Pays r (take count (now (majors .entry))) ⌝ }

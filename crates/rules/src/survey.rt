@@ -87,7 +87,7 @@ fn survey_from(left: usize, mask: u32, size: u32, types: u8, sizes: &[u8; 8], ta
 }
 
 // The ways of a ticket, from the sizes of its groups.
-pub fn survey_ways(groups: u8, types: u8, sizes: &[u8; 8]) -> Survey
+pub(crate) fn survey_ways(groups: u8, types: u8, sizes: &[u8; 8]) -> Survey
     requires { ⌜ Grouped groups × Bytes (now sizes) ⌝ }
     ensures { λ r. ⌜ r ≡ surveyOf (waySizes groups types (now (sizes .entry))) ⌝ }
 {
@@ -102,7 +102,7 @@ pub fn survey_ways(groups: u8, types: u8, sizes: &[u8; 8]) -> Survey
 
 impl Survey {
     // Whether every way selects from lo to hi numbers.
-    pub fn all_between(self, lo: u8, hi: u8) -> bool
+    pub(crate) fn all_between(self, lo: u8, hi: u8) -> bool
         ensures { λ r. ⌜ ((sizes : List ℕ) → self ≡ surveyOf sizes → r ≡ within lo hi sizes) ⌝ }
     {
         if self.least < lo as u32 {
@@ -112,7 +112,7 @@ impl Survey {
     }
 
     // Whether the ways' sizes suit the kind.
-    pub fn suits(self, kind: Kind) -> bool
+    pub(crate) fn suits(self, kind: Kind) -> bool
         ensures { λ r. ⌜ ((sizes : List ℕ) → self ≡ surveyOf sizes → r ≡ sizesFit kind sizes) ⌝ }
     {
         match kind {
@@ -131,7 +131,7 @@ impl Survey {
     }
 
     // The jackpot that a ticket of the kind plays for, 6 or 8, or 0 for none.
-    pub fn jackpot(self, kind: Kind) -> u8
+    pub(crate) fn jackpot(self, kind: Kind) -> u8
         ensures { λ r. ⌜ ((t : Terms) (sizes : List ℕ) → t .kind ≡ kind → self ≡ surveyOf (waySizes (t .groups) (t .types) sizes) → r ≡ jackpotBy t sizes) ⌝ }
     {
         if !kind.is_jackpot() {

@@ -30,7 +30,7 @@ pub fn can_nominate(types: u8, mask: u32, left: usize) -> bool
 
 // Whether it is known that no way begins with the groups in the mask. To count their ones costs as much as to walk over two groups, so it is
 // done only where more are left.
-pub fn ends_here(types: u8, mask: u32, left: usize) -> bool
+pub(crate) fn ends_here(types: u8, mask: u32, left: usize) -> bool
     requires { ⌜ Place left mask ⌝ }
     ensures { λ r. ⌜ (r ≡ true → waysFrom types left mask ≡ []) ⌝ }
 {

@@ -4,7 +4,7 @@ use native.Mathlib.Omega.{arith}
 use native.Mathlib.Numerals.{add-one}
 use mathlib.Core.Path.{_≡_, refl, sym, ap, _∙_, subst}
 use mathlib.Core.List.{List, [], _∷_, _++_, append-assoc}
-use lib.ListN.{length, set, take, drop, length-append, length-take, length-drop}
+use lib.ListN.{length, set, take, drop, length-append, length-take}
 use lib.Seq.{set-split, take-at, drop-append-add, drop-drop, length-take-le}
 use Rattle.text.specs.Lines.{placed, Wrote}
 
@@ -19,10 +19,6 @@ wrote-none out = record { bytes = refl; ends = refl }
 module _ (before : List ℕ) (at : ℕ) (text : List ℕ) (within : at + length text ≤ length before) where
   head-long : length (take at before ++ text) ≡ at + length text
   head-long = length-append (take at before) text ∙ ap (λ k. k + length text) (length-take-le at before (omega arith))
-
-  pub placed-long : length (placed before at text) ≡ length before
-  unfolding placed
-  placed-long = simp (length-append, length-take, length-drop) (omega arith)
 
   placed-twice : (more : List ℕ) → placed (placed before at text) (at + length text) more ≡ placed before at (text ++ more)
   unfolding placed

@@ -5,7 +5,7 @@ ghost use lib.ListN.{length};
 ghost use Rattle.text.specs.Lines.{Wrote, decimal, figure, fourFigures};
 
 // One byte at a place; the next place.
-pub fn put_byte(out: &mut [u8], at: usize, byte: u8) -> usize
+pub(crate) fn put_byte(out: &mut [u8], at: usize, byte: u8) -> usize
     requires { ⌜ at + 1 ≤ length (now out) ⌝ }
     ensures { λ r. ⌜ Wrote (now (out .entry)) at (byte ∷ []) (now (out .exit)) r ⌝ }
 {
@@ -14,7 +14,7 @@ pub fn put_byte(out: &mut [u8], at: usize, byte: u8) -> usize
 }
 
 // A number's digits from a place on; the next place.
-pub fn put_decimal(out: &mut [u8], at: usize, n: u64) -> usize
+pub(crate) fn put_decimal(out: &mut [u8], at: usize, n: u64) -> usize
     requires { ⌜ at + length (decimal n) ≤ length (now out) ⌝ }
     ensures { λ r. ⌜ Wrote (now (out .entry)) at (decimal n) (now (out .exit)) r ⌝ }
 {
@@ -26,7 +26,7 @@ pub fn put_decimal(out: &mut [u8], at: usize, n: u64) -> usize
 }
 
 // A number and the byte that ends it; the next place.
-pub fn put_figure(out: &mut [u8], at: usize, n: u64, end: u8) -> usize
+pub(crate) fn put_figure(out: &mut [u8], at: usize, n: u64, end: u8) -> usize
     requires { ⌜ at + length (figure n end) ≤ length (now out) ⌝ }
     ensures { λ r. ⌜ Wrote (now (out .entry)) at (figure n end) (now (out .exit)) r ⌝ }
 {
@@ -35,7 +35,7 @@ pub fn put_figure(out: &mut [u8], at: usize, n: u64, end: u8) -> usize
 }
 
 // Four figures one space apart, and the byte that ends them; the next place.
-pub fn put_four(out: &mut [u8], at: usize, a: u64, b: u64, c: u64, d: u64, end: u8) -> usize
+pub(crate) fn put_four(out: &mut [u8], at: usize, a: u64, b: u64, c: u64, d: u64, end: u8) -> usize
     requires { ⌜ at + length (fourFigures a b c d end) ≤ length (now out) ⌝ }
     ensures { λ r. ⌜ Wrote (now (out .entry)) at (fourFigures a b c d end) (now (out .exit)) r ⌝ }
 {

@@ -33,7 +33,7 @@ fn put_signed(out: &mut [u8], at: usize, negative: bool, size: u64) -> usize
 }
 
 // An answer's line; the next place.
-pub fn put_answer_line(
+pub(crate) fn put_answer_line(
     out: &mut [u8],
     at: usize,
     byte: u8,

@@ -123,6 +123,7 @@ fn replace_ticket(
     live
 }
 
+// Takes off the games of a ticket that are not drawn yet, and refunds those that were paid.
 pub fn cancel_ticket(
     mut house: House,
     rows: &mut [u64; 3200],

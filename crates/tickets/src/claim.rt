@@ -31,6 +31,7 @@ fn claim_code(game: u64, row: Row) -> u8
     0
 }
 
+// Pays what a finished ticket is due and closes it.
 pub fn claim_ticket(
     mut house: House,
     rows: &mut [u64; 3200],

@@ -15,7 +15,8 @@ pub struct Lookup {
     pub place: usize,
 }
 
-pub fn look_up(house: House, rows: &[u64; 3200], ticket: u32) -> Lookup
+// The first refusal of the table that holds of a number, or the place of its live ticket.
+pub(crate) fn look_up(house: House, rows: &[u64; 3200], ticket: u32) -> Lookup
     requires { ⌜ ComesWith house (now rows) ⌝ }
     ensures code { λ r. ⌜ ((marks : List ℕ) → r .code ≡ firstMet (lookupRows ticket (view house (now (rows .entry)) marks))) ⌝ }
     ensures place { λ r. ⌜ ((marks : List ℕ) → r .code ≡ 0 → r .place ≡ placeOf ticket (view house (now (rows .entry)) marks .live)) ⌝ }

@@ -1,4 +1,4 @@
--- `house::live_list::live_list` meets its contract: the numbers of the live rows are the live tickets', and they rise, so each stands once.
+-- `commands::live_list::live_list` meets its contract: the numbers of the live rows are the live tickets', and they rise, so each stands once.
 use Prim.Native.Nat.{_≤_}
 use native.Mathlib.Omega.{arith}
 use borrow.Author.Needs.{needs}

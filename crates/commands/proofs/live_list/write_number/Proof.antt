@@ -1,4 +1,4 @@
--- `house::live_list::write_number` meets its contract: four stores in a row, and a number below 2^32 has a high byte.
+-- `commands::live_list::write_number` meets its contract: four stores in a row, and a number below 2^32 has a high byte.
 use Prim.Native.Nat.{ℕ, suc, _+_, _/_, _%_, _<_}
 use mathlib.Core.Path.{_≡_}
 use mathlib.Core.List.{List, [], _∷_}

@@ -1,4 +1,4 @@
--- `house::live_list::write_numbers` meets its contract: each turn writes one number more behind the others.
+-- `commands::live_list::write_numbers` meets its contract: each turn writes one number more behind the others.
 use Prim.Native.Nat.{_-_, _*_, _≤_}
 use mathlib.Core.Path.{_≡_, refl, ap, _∙_}
 use native.Mathlib.Omega.{arith}

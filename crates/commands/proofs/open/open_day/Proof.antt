@@ -1,4 +1,4 @@
--- `house::open::open_day` meets its contract: each return is one row of Open's table, or past both.
+-- `commands::open::open_day` meets its contract: each return is one row of Open's table, or past both.
 use Prim.Native.Nat.{ℕ}
 use mathlib.Core.Path.{_≡_, ap, _∙_}
 use mathlib.Core.Bool.{cond, not}

@@ -1,4 +1,4 @@
--- `house::transfer::is_jackpot` meets its contract, by cases on the first test.
+-- `commands::transfer::is_jackpot` meets its contract, by cases on the first test.
 use borrow.Author.Tests.{eq-eqb, ne-eqb}
 use Rattle.commands.proofs.transfer.is_jackpot.Statement.{statement}
 use Rattle.commands.proofs.transfer.is_jackpot.Tie as tie

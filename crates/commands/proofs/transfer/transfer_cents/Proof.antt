@@ -1,4 +1,4 @@
--- `house::transfer::transfer_cents` meets its contract: an accepted transfer is covered by the unclaimed money, and a reached house's primary
+-- `commands::transfer::transfer_cents` meets its contract: an accepted transfer is covered by the unclaimed money, and a reached house's primary
 -- has room for it.
 use native.Mathlib.Omega.{arith}
 use mathlib.Core.Path.{sym, ap, _∙_}

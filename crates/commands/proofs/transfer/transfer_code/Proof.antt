@@ -1,4 +1,4 @@
--- `house::transfer::transfer_code` meets its contract: each return is one row of Transfer's table, or past them all.
+-- `commands::transfer::transfer_code` meets its contract: each return is one row of Transfer's table, or past them all.
 use Prim.Native.Nat.{ℕ}
 use mathlib.Core.Path.{_≡_, refl, sym, ap, _∙_}
 use mathlib.Core.Bool.{Bool, true, false, cond, not, _||_}

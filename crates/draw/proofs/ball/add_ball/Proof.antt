@@ -1,4 +1,4 @@
--- `house::ball::add_ball` meets its contract: fewer than twenty balls are in with it, so the game goes on.
+-- `draw::ball::add_ball` meets its contract: fewer than twenty balls are in with it, so the game goes on.
 use native.Mathlib.Omega.{arith}
 use mathlib.Core.Path.{sym, ap, _∙_}
 use borrow.Author.Needs.{needs}

@@ -1,4 +1,4 @@
--- `house::ball::ball_code` meets its contract: each return is one row of Ball's table, or past them all.
+-- `draw::ball::ball_code` meets its contract: each return is one row of Ball's table, or past them all.
 use Prim.Native.Nat.{ℕ}
 use mathlib.Core.Path.{_≡_, refl, sym, _∙_}
 use mathlib.Core.Bool.{Bool, true, false, cond, not, _&&_}

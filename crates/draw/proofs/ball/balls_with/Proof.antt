@@ -1,4 +1,4 @@
--- `house::ball::balls_with` meets its contract: the number is stored behind the balls in.
+-- `draw::ball::balls_with` meets its contract: the number is stored behind the balls in.
 use native.Mathlib.Omega.{arith}
 use mathlib.Core.Path.{_≡_, sym, _∙_}
 use lib.ListN.{length, length-map, length-set}

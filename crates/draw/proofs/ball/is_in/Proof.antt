@@ -1,4 +1,4 @@
--- `house::ball::is_in` meets its contract: the number is none of the balls passed.
+-- `draw::ball::is_in` meets its contract: the number is none of the balls passed.
 use Prim.Native.Nat.{ℕ, _≤_, _-_}
 use native.Mathlib.Omega.{arith}
 use mathlib.Core.Path.{_≡_, sym, ap, _∙_, subst}

@@ -1,4 +1,4 @@
--- `house::prizes::row_terms` meets its contract: the kind is that of its number, and the other words are the terms.
+-- `draw::prizes::row_terms` meets its contract: the kind is that of its number, and the other words are the terms.
 use borrow.Author.Needs.{needs}
 use Rattle.draw.proofs.prizes.row_terms.Statement.{statement}
 use Rattle.draw.proofs.prizes.row_terms.Tie as tie

@@ -1,4 +1,4 @@
--- `house::settle::close_tickets` meets its contract: the first places hold those that stay of the tickets passed, and the rest are untouched.
+-- `draw::settle::close_tickets` meets its contract: the first places hold those that stay of the tickets passed, and the rest are untouched.
 use Prim.Native.Nat.{_+_, _≤_, _-_}
 use native.Mathlib.Omega.{arith}
 use mathlib.Core.Path.{_≡_, refl, ap, ap₂, _∙_}

@@ -1,4 +1,4 @@
--- `house::settle::next_game` meets its contract: every figure has the room that it asks for.
+-- `draw::settle::next_game` meets its contract: every figure has the room that it asks for.
 use native.Mathlib.Omega.{arith}
 use borrow.Author.Needs.{needs}
 use Rattle.draw.proofs.settle.next_game.Statement.{statement}

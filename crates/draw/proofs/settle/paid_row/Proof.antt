@@ -1,4 +1,4 @@
--- `house::settle::paid_row` meets its contract: a finishing day is set only where none stands and no game is left.
+-- `draw::settle::paid_row` meets its contract: a finishing day is set only where none stands and no game is left.
 use mathlib.Core.Path.{sym, _∙_}
 use borrow.Author.Needs.{needs}
 use borrow.Author.Tests.{not-true, not-false}

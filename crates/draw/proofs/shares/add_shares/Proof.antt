@@ -1,4 +1,4 @@
--- `house::shares::add_shares` meets its contract: each turn joins one row's share to what its ticket is paid, and the odd cents fall by its ways.
+-- `draw::shares::add_shares` meets its contract: each turn joins one row's share to what its ticket is paid, and the odd cents fall by its ways.
 use Prim.Native.Nat.{_+_, _-_, _*_, _≤_, min}
 use mathlib.Core.Path.{_≡_, sym, ap, subst, _∙_}
 use native.Mathlib.Omega.{arith}

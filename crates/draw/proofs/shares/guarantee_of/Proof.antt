@@ -1,4 +1,4 @@
--- `house::shares::guarantee_of` meets its contract: the test on the number is the definition's.
+-- `draw::shares::guarantee_of` meets its contract: the test on the number is the definition's.
 use borrow.Author.Tests.{eq-eqb, ne-eqb}
 use Rattle.draw.proofs.shares.guarantee_of.Statement.{statement}
 use Rattle.draw.proofs.shares.guarantee_of.Tie as tie

@@ -1,4 +1,4 @@
--- `house::shares::odd_cents` meets its contract: each turn adds one row's rounded shares, which are together within the primary.
+-- `draw::shares::odd_cents` meets its contract: each turn adds one row's rounded shares, which are together within the primary.
 use Prim.Native.Nat.{_+_, _-_, _*_, _≤_}
 use mathlib.Core.Path.{_≡_, sym, ap, subst, _∙_}
 use native.Mathlib.Omega.{arith}

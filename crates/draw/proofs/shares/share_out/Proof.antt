@@ -1,4 +1,4 @@
--- `house::shares::share_out` meets its contract: a primary that nobody won pays nothing, and one that was won is paid whole.
+-- `draw::shares::share_out` meets its contract: a primary that nobody won pays nothing, and one that was won is paid whole.
 use Prim.Native.Nat.{_+_, _<_}
 use mathlib.Core.Path.{sym, ap, subst, _∙_}
 use mathlib.Core.List.{zipWith}

@@ -1,4 +1,4 @@
--- `house::shares::shares_of` meets its contract: no winning way gets nothing, and the stake fits its smaller type.
+-- `draw::shares::shares_of` meets its contract: no winning way gets nothing, and the stake fits its smaller type.
 use native.Mathlib.Nat.{zero-mul}
 use native.Mathlib.Omega.{arith}
 use Rattle.rules.specs.Jackpots.{shareOf}

@@ -1,4 +1,4 @@
--- `house::shares::winning_ways` meets its contract: the test on the jackpot is the definition's.
+-- `draw::shares::winning_ways` meets its contract: the test on the jackpot is the definition's.
 use borrow.Author.Tests.{eq-eqb, ne-eqb}
 use lib.ListN.{getD}
 use Prim.Native.Nat.{_*_, _+_}

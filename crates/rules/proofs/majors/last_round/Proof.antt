@@ -5,7 +5,7 @@ use mathlib.Core.Path.{_≡_, sym, ap, subst, _∙_}
 use native.Mathlib.Omega.{arith}
 use lib.ListN.{length, take}
 use borrow.Author.Needs.{needs}
-use Rattle.rules.specs.Prize.{prizeLimit}
+use Rattle.rules.specs.Cut.{majorsLimit}
 use Rattle.rules.specs.Bounds.{Cuttable}
 use Rattle.rules.specs.Rounds.{nextBelow, cutBelow, Listed}
 use Rattle.rules.specs.declared.cut.Cut.{Cut}
@@ -52,7 +52,7 @@ returns c =
     let start = found .before .before .before .before in
     let args = start .args in
     last-pays (args .majors .now) (args .count) (start .pre .0) (turn .cut) (turn .inv (start .pre .0) .0) (found .cut-below .result) (round found)
-    (subst (λ n. prizeLimit < n) (start .pre .1 .total) (start .pre .1 .past)) (c .if1 .taken)
+    (subst (λ n. majorsLimit < n) (start .pre .1 .total) (start .pre .1 .past)) (c .if1 .taken)
 
 loop-less : tie.Need-loop-less Inv-loop μ-loop
 loop-less c =

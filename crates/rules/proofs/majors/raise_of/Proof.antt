@@ -5,7 +5,8 @@ use native.Mathlib.Nat.{mul-le-mul-right}
 use native.Mathlib.Omega.{arith}
 use lib.ListN.{length, take, drop, getD}
 use borrow.Author.Needs.{needs}
-use Rattle.rules.specs.Prize.{prizeLimit, majorFloor}
+use Rattle.rules.specs.Prize.{majorFloor}
+use Rattle.rules.specs.Cut.{majorsLimit}
 use Rattle.rules.specs.Rounds.{payUnder}
 use Rattle.rules.proofs.KeepLaws.{sum-within}
 use Rattle.rules.proofs.MajorLaws.{part-length, part-member, Summed, summed-none, summed-more, summed-le, summed-all}
@@ -68,8 +69,8 @@ add-total c =
     omega (
       arith,
       summed-le raised (args .majors .now) (args .from) (args .many) (more c),
-      sum-within raised prizeLimit prizes (λ p m. omega (arith, start .pre .most p m)),
-      mul-le-mul-right prizeLimit few,
+      sum-within raised majorsLimit prizes (λ p m. omega (arith, start .pre .most p m)),
+      mul-le-mul-right majorsLimit few,
     )
 
 add-i : tie.Need-add-i Inv-loop μ-loop

@@ -1,4 +1,4 @@
--- `house::cancel::cancel_code` meets its contract: each return is one row of Cancel's table, or past them all.
+-- `tickets::cancel::cancel_code` meets its contract: each return is one row of Cancel's table, or past them all.
 use mathlib.Core.Path.{_≡_, sym, _∙_}
 use mathlib.Core.Bool.{true, false, not}
 use lib.Dec.{eqb}

@@ -1,4 +1,4 @@
--- `house::cancel::cancel_ticket` meets its contract: the refusals are the table's rows in their order, and a cancelled ticket is the found one
+-- `tickets::cancel::cancel_ticket` meets its contract: the refusals are the table's rows in their order, and a cancelled ticket is the found one
 -- with its games cut off, whose refund a reached house has room for.
 use Prim.Native.Nat.{ℕ, _+_, _*_, _^_, _≤_, _<_, min, max}
 use native.Mathlib.Omega.{arith}

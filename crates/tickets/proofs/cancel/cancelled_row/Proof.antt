@@ -1,4 +1,4 @@
--- `house::cancel::cancelled_row` meets its contract, by the two tests of a finishing day.
+-- `tickets::cancel::cancelled_row` meets its contract, by the two tests of a finishing day.
 use mathlib.Core.Path.{sym, _∙_}
 use borrow.Author.Needs.{needs}
 use borrow.Author.Tests.{eq-eqb, ne-eqb, not-true, not-false}

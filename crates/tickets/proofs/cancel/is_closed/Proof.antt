@@ -1,4 +1,4 @@
--- `house::cancel::is_closed` meets its contract: a ticket with something due is live, and another just where a game is left.
+-- `tickets::cancel::is_closed` meets its contract: a ticket with something due is live, and another just where a game is left.
 use Prim.Native.Nat.{ℕ}
 use mathlib.Core.Path.{_≡_, refl, _∙_}
 use mathlib.Core.Bool.{Bool, true, false, not, _&&_}

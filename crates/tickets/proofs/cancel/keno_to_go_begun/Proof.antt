@@ -1,4 +1,4 @@
--- `house::cancel::keno_to_go_begun` meets its contract, by its tests in turn.
+-- `tickets::cancel::keno_to_go_begun` meets its contract, by its tests in turn.
 use borrow.Author.Tests.{lt-ltb, le-ltb, le-leb, lt-leb, eq-eqb, ne-eqb}
 use Rattle.tickets.proofs.cancel.keno_to_go_begun.Statement.{statement}
 use Rattle.tickets.proofs.cancel.keno_to_go_begun.Tie as tie

@@ -1,4 +1,4 @@
--- `house::cancel::refund` meets its contract: the paid games from the stop on are at most those that the ticket paid for, so they fit a byte.
+-- `tickets::cancel::refund` meets its contract: the paid games from the stop on are at most those that the ticket paid for, so they fit a byte.
 use Prim.Native.Nat.{_-_}
 use mathlib.Core.Path.{ap₂, _∙_}
 use borrow.Author.Needs.{needs}

@@ -1,4 +1,4 @@
--- `house::cancel::replace_ticket` meets its contract: a closed row is removed, and another stored in its place.
+-- `tickets::cancel::replace_ticket` meets its contract: a closed row is removed, and another stored in its place.
 use native.Mathlib.Omega.{arith}
 use mathlib.Core.Path.{_≡_, sym, ap, _∙_}
 use mathlib.Core.Bool.{true, false}

@@ -1,4 +1,4 @@
--- `house::claim::claim_code` meets its contract: each return is one row of Claim's table, or past both.
+-- `tickets::claim::claim_code` meets its contract: each return is one row of Claim's table, or past both.
 use mathlib.Core.Path.{sym, ap, _∙_}
 use mathlib.Core.Bool.{not}
 use borrow.Author.Needs.{needs}

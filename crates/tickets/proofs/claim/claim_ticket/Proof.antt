@@ -1,4 +1,4 @@
--- `house::claim::claim_ticket` meets its contract: the refusals are the table's rows in their order, and a claim removes the ticket, which with
+-- `tickets::claim::claim_ticket` meets its contract: the refusals are the table's rows in their order, and a claim removes the ticket, which with
 -- nothing due is finished and so closed.
 use Prim.Native.Nat.{ℕ, _+_, _-_, _^_, _<_}
 use native.Mathlib.Omega.{arith}

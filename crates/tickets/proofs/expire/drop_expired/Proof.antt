@@ -1,4 +1,4 @@
--- `house::expire::drop_expired` meets its contract: the tickets passed so far are those that stay, and the rest are as they were.
+-- `tickets::expire::drop_expired` meets its contract: the tickets passed so far are those that stay, and the rest are as they were.
 use Prim.Native.Nat.{_+_, _-_, _≤_, _<_, _^_}
 use mathlib.Core.Path.{_≡_, refl, sym, ap, _∙_, subst, subst⁻¹}
 use mathlib.Core.List.{List, map}

@@ -1,4 +1,4 @@
--- `house::expire::expire_tickets` meets its contract: the tickets that stay are those of the house after it, the others are counted, and their
+-- `tickets::expire::expire_tickets` meets its contract: the tickets that stay are those of the house after it, the others are counted, and their
 -- dues are within what the reached house owes, so the sum fits.
 use Prim.Native.Nat.{_-_}
 use native.Mathlib.Omega.{arith}

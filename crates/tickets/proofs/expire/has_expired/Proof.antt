@@ -1,4 +1,4 @@
--- `house::expire::has_expired` meets its contract, test by test.
+-- `tickets::expire::has_expired` meets its contract, test by test.
 use native.Mathlib.Omega.{arith}
 use Rattle.tickets.proofs.ExpireLaws.{in-time, late-drawn, late-begun}
 use Rattle.tickets.proofs.expire.has_expired.Statement.{statement}

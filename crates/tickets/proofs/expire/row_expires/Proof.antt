@@ -1,4 +1,4 @@
--- `house::expire::row_expires` meets its contract: the words that it reads are the ticket's.
+-- `tickets::expire::row_expires` meets its contract: the words that it reads are the ticket's.
 use Rattle.house.specs.Tickets.{gamesLeft}
 use Rattle.house.specs.Commands.{isExpired}
 use borrow.Author.Needs.{needs}

@@ -1,4 +1,4 @@
--- `house::sell::sale_code` meets its contract: each return is at the row of Sell's table that the tests before it lead to.
+-- `tickets::sell::sale_code` meets its contract: each return is at the row of Sell's table that the tests before it lead to.
 use native.Mathlib.Omega.{arith}
 use mathlib.Core.Path.{sym, _∙_}
 use mathlib.Core.List.{[]}

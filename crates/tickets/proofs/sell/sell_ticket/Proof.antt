@@ -1,4 +1,4 @@
--- `house::sell::sell_ticket` meets its contract: a refusal is the first row of Sell's table that is met; else the row appended is the new ticket,
+-- `tickets::sell::sell_ticket` meets its contract: a refusal is the first row of Sell's table that is met; else the row appended is the new ticket,
 -- and the struct counts it. The sums fit, since the house is a reached one.
 use Prim.Native.Nat.{_+_, _<_}
 use native.Mathlib.Omega.{arith}
