@@ -14,7 +14,7 @@ use Rattle.house.specs.Tickets.{Ticket}
 use Rattle.house.specs.Commands.{blankTicket}
 use Rattle.house.specs.View.{ticketIn, view}
 use Rattle.house.specs.Parts.{ComesWith}
-use Rattle.commands.specs.Listing.{fourBytes, bytesOf, Listing}
+use Rattle.commands.specs.Listing.{fourBytes, listBytes, Listing}
 use Rattle.house.specs.declared.state.House.{House}
 use Rattle.house.proofs.Ledger.{All}
 use Rattle.house.proofs.RisingNumbers.{Rising, all-at}
@@ -76,44 +76,44 @@ module _ (h : House) (words : List ℕ) (comes : ComesWith h words) where
 
 -- ---- numbers written one after another
 
-length-bytes : (ns : List ℕ) → length (bytesOf ns) ≡ 4 * length ns
-unfolding bytesOf fourBytes
+length-bytes : (ns : List ℕ) → length (listBytes ns) ≡ 4 * length ns
+unfolding listBytes fourBytes
 length-bytes [] = refl
 length-bytes (n ∷ ns) = omega (arith, length-bytes ns)
 
-bytes-append : (ns ks : List ℕ) → bytesOf (ns ++ ks) ≡ bytesOf ns ++ bytesOf ks
-unfolding bytesOf
+bytes-append : (ns ks : List ℕ) → listBytes (ns ++ ks) ≡ listBytes ns ++ listBytes ks
+unfolding listBytes
 bytes-append [] ks = refl
-bytes-append (n ∷ ns) ks = ap (λ l. fourBytes n ++ l) (bytes-append ns ks) ∙ sym (append-assoc (fourBytes n) (bytesOf ns) (bytesOf ks))
+bytes-append (n ∷ ns) ks = ap (λ l. fourBytes n ++ l) (bytes-append ns ks) ∙ sym (append-assoc (fourBytes n) (listBytes ns) (listBytes ks))
 
 length-four : (n : ℕ) → length (fourBytes n) ≡ 4
 unfolding fourBytes
 length-four n = refl
 
-bytes-one : (n : ℕ) → bytesOf (n ∷ []) ≡ fourBytes n
-unfolding bytesOf fourBytes
+bytes-one : (n : ℕ) → listBytes (n ∷ []) ≡ fourBytes n
+unfolding listBytes fourBytes
 bytes-one n = refl
 
 -- a buffer that begins with the numbers of the first rows
 unfoldable pub listedTo : (ℕ → ℕ) → ℕ → List ℕ → List ℕ
-listedTo f n out = bytesOf (map f (below n)) ++ drop (4 * n) out
+listedTo f n out = listBytes (map f (below n)) ++ drop (4 * n) out
 
 pub listed-none : (f : ℕ → ℕ) (out : List ℕ) → out ≡ listedTo f 0 out
-unfolding listedTo below bytesOf
+unfolding listedTo below listBytes
 listed-none f out = refl
 
 module _ (f : ℕ → ℕ) (n : ℕ) (out : List ℕ) (room : 4 * n + 4 ≤ length out) where
   abbrev head : List ℕ
-  head = bytesOf (map f (below n))
+  head = listBytes (map f (below n))
 
   head-length : length head ≡ 4 * n
   head-length = length-bytes (map f (below n)) ∙ ap (λ k. 4 * k) (length-table f n)
 
-  head-more : bytesOf (map f (below (n + 1))) ≡ head ++ fourBytes (f n)
+  head-more : listBytes (map f (below (n + 1))) ≡ head ++ fourBytes (f n)
   unfolding below
   head-more =
-      ap (λ k. bytesOf (map f (below k))) (add-one n)
-      ∙ ap bytesOf (map-append f (below n) (n ∷ []))
+      ap (λ k. listBytes (map f (below k))) (add-one n)
+      ∙ ap listBytes (map-append f (below n) (n ∷ []))
       ∙ bytes-append (map f (below n)) (f n ∷ [])
       ∙ ap (λ l. head ++ l) (bytes-one (f n))
 
@@ -158,7 +158,7 @@ module _ (h : House) (words marks before : List ℕ) where
       ComesWith h words
       → h .live * 4 ≤ length before
       → (after : List ℕ)
-      → after ≡ bytesOf (map (numberAt words) (below (h .live))) ++ drop (4 * h .live) before
+      → after ≡ listBytes (map (numberAt words) (below (h .live))) ++ drop (4 * h .live) before
       → Listing (view h words marks) before after (record { code = 0; count = h .live })
   listing-written comes room after written =
       let count : h .live ≡ live = sym (live-count h words marks) in
@@ -171,7 +171,7 @@ module _ (h : House) (words marks before : List ℕ) where
               count,
               record {
                 numbers = map (numberAt words) (below (h .live));
-                bytes = written ∙ ap (λ n. bytesOf (map (numberAt words) (below (h .live))) ++ drop (4 * n) before) count;
+                bytes = written ∙ ap (λ n. listBytes (map (numberAt words) (below (h .live))) ++ drop (4 * n) before) count;
                 many = length-table (numberAt words) (h .live) ∙ count;
                 once = numbers-once h words comes marks;
               },

@@ -14,14 +14,14 @@ use Rattle.commands.specs.declared.live_list.Listed.{Listed}
 unfoldable pub fourBytes : ℕ → List ℕ
 fourBytes n = n / 16777216 ∷ n / 65536 % 256 ∷ n / 256 % 256 ∷ n % 256 ∷ []
 
-unfoldable pub bytesOf : List ℕ → List ℕ
-bytesOf [] = []
-bytesOf (n ∷ ns) = fourBytes n ++ bytesOf ns
+unfoldable pub listBytes : List ℕ → List ℕ
+listBytes [] = []
+listBytes (n ∷ ns) = fourBytes n ++ listBytes ns
 
 -- the buffer after the list was written: it begins with some numbers, as many as there are live tickets, and the rest is as before
 pub record Written (m : Model) (before after : List ℕ) : Type 0 where
   pub numbers : List ℕ
-  pub bytes : after ≡ bytesOf numbers ++ drop (4 * length (m .live)) before
+  pub bytes : after ≡ listBytes numbers ++ drop (4 * length (m .live)) before
   pub many : length numbers ≡ length (m .live)
   -- a live ticket's number stands there once, and no other does
   pub once : (n : ℕ) → length (keep (eqb n) numbers) ≡ cond (member n (map (λ t. t .number) (m .live))) 1 0

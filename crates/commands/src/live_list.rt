@@ -8,7 +8,7 @@ ghost use lib.Seq.{sets};
 ghost use Rattle.rules.specs.Lists.{below};
 ghost use Rattle.house.specs.View.{view};
 ghost use Rattle.house.specs.Parts.{ComesWith};
-ghost use Rattle.commands.specs.Listing.{fourBytes, bytesOf, Listing};
+ghost use Rattle.commands.specs.Listing.{fourBytes, listBytes, Listing};
 
 // 0 with the number of live tickets, or the refusal's number.
 #[repr(C)]
@@ -31,7 +31,7 @@ fn write_number(out: &mut [u8], at: usize, number: u64)
 // The numbers of the first tickets, one after another.
 fn write_numbers(rows: &[u64; 3200], live: usize, out: &mut [u8])
     requires { ⌜ (live ≤ 200) × (4 * live ≤ length (now out)) × ((i : ℕ) → i < live → getD (now rows) (i * 16) 0 < 2 ^ 32) ⌝ }
-    ensures { λ r. ⌜ now (out .exit) ≡ bytesOf (map (λ i. getD (now (rows .entry)) (i * 16) 0) (below live)) ++ drop (4 * live) (now (out .entry)) ⌝ }
+    ensures { λ r. ⌜ now (out .exit) ≡ listBytes (map (λ i. getD (now (rows .entry)) (i * 16) 0) (below live)) ++ drop (4 * live) (now (out .entry)) ⌝ }
 {
     let mut i = 0;
     while i < live {

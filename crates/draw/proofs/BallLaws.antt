@@ -23,7 +23,7 @@ use Rattle.house.specs.Till.{tillOf}
 use Rattle.house.specs.View.{ticketIn, ticketsOf, view}
 use Rattle.draw.specs.Settling.{spread, entriesOf, prizesIn, jackpotPart, fullIn, Prized, SharedOut}
 use Rattle.draw.specs.Sharing.{paidAt, paidIn}
-use Rattle.draw.specs.Closing.{houseAfter}
+use Rattle.draw.specs.Closing.{houseAfterGame}
 use Rattle.house.specs.declared.state.House.{House}
 use Rattle.draw.specs.declared.shares.Part.{Part}
 use Rattle.house.proofs.Ledger.{All}
@@ -328,10 +328,10 @@ pub settled-view : (h : House) (words marks words′ marks′ : List ℕ) (b lef
     ≡ stillLive (h .game + 1)
     (map (finishedOn (h .day) (h .game + 1)) (awarded (h .game) (settlement b (view h words marks) .awards) (view h words marks .live)))
     → Found (view h words marks) b cents staked six eight
-    → view (houseAfter h left cents staked six eight) words′ marks′ ≡ gameSettled b (view h words marks)
+    → view (houseAfterGame h left cents staked six eight) words′ marks′ ≡ gameSettled b (view h words marks)
 unfolding view gameSettled below
 settled-view h words marks words′ marks′ b left cents staked six eight few stay f =
-    let live = view-live (houseAfter h left cents staked six eight) words′ marks′ few ∙ stay in
+    let live = view-live (houseAfterGame h left cents staked six eight) words′ marks′ few ∙ stay in
     λ i.
     record {
       day = h .day;

@@ -10,8 +10,8 @@ abbrev pub paidTicket : ℕ → ℕ → ℕ → Ticket → Ticket
 paidTicket day game cents t = finishedOn day game (withDue t (t .due + cents))
 
 -- the house with so many live tickets, from the prizes and the paid stakes of the game and the two jackpots' parts of it
-abbrev pub houseAfter : House → ℕ → ℕ → ℕ → Part → Part → House
-houseAfter h live prizes stakes six eight =
+abbrev pub houseAfterGame : House → ℕ → ℕ → ℕ → Part → Part → House
+houseAfterGame h live prizes stakes six eight =
     record {
       day = h .day;
       game = h .game + 1;

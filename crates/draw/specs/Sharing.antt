@@ -12,7 +12,7 @@ use Rattle.rules.specs.Jackpots.{Winner, winningStakes}
 use Rattle.house.specs.Tickets.{runsIn, paidStakes}
 use Rattle.house.specs.View.{rowOf, ticketIn}
 use Rattle.draw.specs.declared.figures.Stakes.{Stakes}
-use Rattle.draw.specs.declared.figures.Figures.{Figures}
+use Rattle.draw.specs.declared.figures.GameFigures.{GameFigures}
 
 -- what a row's ticket paid for the game, where it runs in it; no mark is read
 unfoldable pub paidAt : List ℕ → ℕ → ℕ → ℕ
@@ -47,7 +47,7 @@ stakesOf words full game j live =
     record { jackpot = j; paid = stakesIn words game j live; winning = winningStakes (winnersIn words full j live) }
 
 -- what the first rows tell of a game, with its prizes and full matches in two tables
-abbrev pub figuresOf : List ℕ → List ℕ → List ℕ → ℕ → ℕ → Figures
+abbrev pub figuresOf : List ℕ → List ℕ → List ℕ → ℕ → ℕ → GameFigures
 figuresOf words paid full game live =
     record { prizes = sum (take live paid); stakes = paidIn words game live; six = stakesOf words full game 6 live; eight = stakesOf words full game 8 live }
 

@@ -19,7 +19,7 @@ pub struct Stakes {
 }
 
 // The prizes of all tickets, what they paid for the game, and the part of those that play for a jackpot.
-pub struct Figures {
+pub struct GameFigures {
     pub prizes: u64,
     pub stakes: u64,
     pub six: Stakes,
@@ -70,7 +70,7 @@ pub(crate) fn find_figures(
     full: &[u64; 200],
     live: usize,
     game: u64,
-) -> Figures
+) -> GameFigures
     requires rows { ⌜ Entered (now rows) (now full) live ⌝ }
     requires prizes { ⌜ (live ≤ length (now paid)) × (sum (take live (now paid)) < 2 ^ 64) ⌝ }
     ensures { λ r. ⌜ r ≡ figuresOf (now (rows .entry)) (now (paid .entry)) (now (full .entry)) game live ⌝ }
@@ -96,7 +96,7 @@ pub(crate) fn find_figures(
         eight = with_ticket(eight, rows, full, i, own);
         i += 1;
     }
-    Figures {
+    GameFigures {
         prizes,
         stakes,
         six,

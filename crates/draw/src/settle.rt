@@ -25,7 +25,7 @@ ghost use Rattle.house.specs.Balance.{Reached};
 ghost use Rattle.house.specs.View.{ticketFrom, ticketIn, ticketsOf, view};
 ghost use Rattle.house.specs.Parts.{Carried};
 ghost use Rattle.draw.specs.Settling.{spread};
-ghost use Rattle.draw.specs.Closing.{paidTicket, houseAfter};
+ghost use Rattle.draw.specs.Closing.{paidTicket, houseAfterGame};
 
 // A ticket with what it is paid, and its finishing day where no game is left.
 fn paid_row(row: Row, day: u64, game: u64, cents: u64) -> Row
@@ -131,10 +131,10 @@ fn close_tickets(
 // The house after the game, with so many live tickets: the next game is current and has no balls.
 fn next_game(house: House, left: usize, prizes: u64, stakes: u64, six: Part, eight: Part) -> House
     requires { ⌜ (house .game < 2 ^ 62)
-        × (houseAfter house left prizes stakes six eight .counters .seeds < 2 ^ 62)
-        × (houseAfter house left prizes stakes six eight .counters .gained < 2 ^ 62)
-        × (houseAfter house left prizes stakes six eight .counters .lost < 2 ^ 62) ⌝ }
-    ensures { λ r. ⌜ r ≡ houseAfter house left prizes stakes six eight ⌝ }
+        × (houseAfterGame house left prizes stakes six eight .counters .seeds < 2 ^ 62)
+        × (houseAfterGame house left prizes stakes six eight .counters .gained < 2 ^ 62)
+        × (houseAfterGame house left prizes stakes six eight .counters .lost < 2 ^ 62) ⌝ }
+    ensures { λ r. ⌜ r ≡ houseAfterGame house left prizes stakes six eight ⌝ }
 {
     let balls = house.balls;
     let six_after = six.after;

@@ -49,11 +49,11 @@ row-within k (t ∷ ts) row =
 -- ---- the ticket of a number among those that pass a test
 
 module _ (n : ℕ) where
-  abbrev Found : (Ticket → Type 0) → List Ticket → Type 0
-  Found P ts = P (ticketAt n ts) × (ticketAt n ts .number ≡ n)
+  abbrev Located : (Ticket → Type 0) → List Ticket → Type 0
+  Located P ts = P (ticketAt n ts) × (ticketAt n ts .number ≡ n)
 
   found-here : (P : Ticket → Type 0) (t : Ticket) (ts : List Ticket) → P t
-      → (hasTicket n ts ≡ true → Found P ts) → hasTicket n (t ∷ ts) ≡ true → Found P (t ∷ ts)
+      → (hasTicket n ts ≡ true → Located P ts) → hasTicket n (t ∷ ts) ≡ true → Located P (t ∷ ts)
   unfolding any ticketAt
   found-here P t ts h rest = go (eqb (t .number) n) refl
     where
@@ -65,9 +65,9 @@ module _ (n : ℕ) where
       go false e has = rest has
 
   found-kept : (P : Ticket → Type 0) (b : Bool) (t : Ticket) (ts : List Ticket) → P t
-      → (hasTicket n ts ≡ true → Found P ts)
+      → (hasTicket n ts ≡ true → Located P ts)
       → hasTicket n (cond b (t ∷ ts) ts) ≡ true
-      → Found P (cond b (t ∷ ts) ts)
+      → Located P (cond b (t ∷ ts) ts)
   found-kept P true t ts h rest = found-here P t ts h rest
   found-kept P false t ts h rest = rest
 

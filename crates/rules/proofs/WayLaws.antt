@@ -10,7 +10,7 @@ use lib.Count.{ones, onesIn}
 use lib.Pow.{pow-pos, pow-mono, suc-ones}
 use Rattle.rules.specs.Lists.{sum, below, keep}
 use Rattle.rules.specs.Ways.{nominated, ways, taken}
-use Rattle.rules.specs.Bounds.{Place, Carried}
+use Rattle.rules.specs.Bounds.{Place, AddedUp}
 
 -- ---- lengths as sums, and choices
 
@@ -119,11 +119,11 @@ taken-without m (suc n) (x ∷ xs) = taken-without m n xs
 pub start-place : {g : ℕ} → g ≤ 8 → Place g 0
 start-place {g} h = record { groups = h; chosen = pow-pos (8 - g) }
 
-pub start-carried : (g : ℕ) (xs : List ℕ) → Carried g 0 0 xs
+pub start-carried : (g : ℕ) (xs : List ℕ) → AddedUp g 0 0 xs
 start-carried g xs = record { added = sym (taken-none (drop g xs)); small = omega arith }
 
 -- where no group is left, what is carried is all that the mask takes
-pub carried-all : {left m total : ℕ} {xs : List ℕ} → left ≡ 0 → Carried left m total xs → total ≡ taken m xs
+pub carried-all : {left m total : ℕ} {xs : List ℕ} → left ≡ 0 → AddedUp left m total xs → total ≡ taken m xs
 carried-all {m = m} {xs = xs} none c = c .added ∙ ap (λ k. taken m (drop k xs)) none
 
 pub mask-lt : {left m : ℕ} → Place left m → m < 2 ^ 8
@@ -148,8 +148,8 @@ module _ {left : ℕ} (some : left ≡ 0 → ⊥) where
   place-without p = record { groups = omega arith; chosen = omega (arith, doubled (p .groups)) }
 
   module _ {m total : ℕ} {xs : List ℕ} where
-    pub carried-with : left ≤ 8 → Carried left m total xs → getD xs (left - 1) 0 ≤ 255
-        → Carried (left - 1) (m * 2 + 1) (total + getD xs (left - 1) 0) xs
+    pub carried-with : left ≤ 8 → AddedUp left m total xs → getD xs (left - 1) 0 ≤ 255
+        → AddedUp (left - 1) (m * 2 + 1) (total + getD xs (left - 1) 0) xs
     carried-with h c byte =
         record {
           added =
@@ -158,7 +158,7 @@ module _ {left : ℕ} (some : left ≡ 0 → ⊥) where
           small = omega (arith, pos-of-ne-zero some);
         }
 
-    pub carried-without : Carried left m total xs → Carried (left - 1) (m * 2) total xs
+    pub carried-without : AddedUp left m total xs → AddedUp (left - 1) (m * 2) total xs
     carried-without c =
         record {
           added = c .added ∙ ap (λ k. taken m (drop k xs)) (sym next) ∙ sym (taken-without m (left - 1) xs);

@@ -23,7 +23,7 @@ pub record Place (left mask : ℕ) : Type 0 where
   pub chosen : mask < 2 ^ (8 - left)
 
 -- what the walk carries to that place: the bytes of the groups taken so far, added
-pub record Carried (left mask total : ℕ) (figures : List ℕ) : Type 0 where
+pub record AddedUp (left mask total : ℕ) (figures : List ℕ) : Type 0 where
   pub added : total ≡ taken mask (drop left figures)
   pub small : total ≤ 255 * (8 - left)
 

@@ -12,7 +12,7 @@ ghost use lib.Count.{ones};
 ghost use Rattle.rules.specs.Kinds.{within, sizesFit};
 ghost use Rattle.rules.specs.Ways.{nominated, waySizes};
 ghost use Rattle.rules.specs.Settle.{jackpotBy};
-ghost use Rattle.rules.specs.Bounds.{Grouped, Place, Carried, Bytes};
+ghost use Rattle.rules.specs.Bounds.{Grouped, Place, AddedUp, Bytes};
 ghost use Rattle.rules.specs.Passes.{sizesFrom, noted, surveyFrom, surveyOf, surveyIn, Unfilled};
 ghost use Rattle.rules.specs.declared.terms.Terms.{Terms};
 
@@ -70,7 +70,7 @@ fn note_mask(mask: u32, size: u32, types: u8, table: &mut [u32; 3])
 
 // Takes in the ways that begin with the groups in the mask, which select `size` numbers, where `left` groups are left to leave or to take.
 fn survey_from(left: usize, mask: u32, size: u32, types: u8, sizes: &[u8; 8], table: &mut [u32; 3])
-    requires { ⌜ Bytes (now sizes) × Place left mask × Carried left mask size (now sizes) × Unfilled (sizesFrom types (now sizes) left mask) (now table) ⌝ }
+    requires { ⌜ Bytes (now sizes) × Place left mask × AddedUp left mask size (now sizes) × Unfilled (sizesFrom types (now sizes) left mask) (now table) ⌝ }
     ensures { λ r. ⌜ surveyIn (now (table .exit)) ≡ surveyFrom (surveyIn (now (table .entry))) (sizesFrom types (now (sizes .entry)) left mask) ⌝ }
 {
     if left == 0 {

@@ -86,7 +86,7 @@ pub record Wrote (before : List ℕ) (at : ℕ) (text after : List ℕ) (next : 
   pub ends : next ≡ at + length text
 
 -- a buffer with room for a line from a place on
-pub record Room (out : List ℕ) (at : ℕ) (text : List ℕ) : Type 0 where
+pub record RoomFor (out : List ℕ) (at : ℕ) (text : List ℕ) : Type 0 where
   pub ends : at + length text ≤ length out
 
 -- a book that has so many answers, and a buffer with room for their lines, 40 bytes each at the most

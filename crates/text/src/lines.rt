@@ -6,7 +6,7 @@ use commands::till::Till;
 ghost use mathlib.Core.List.{_∷_, [], _++_};
 ghost use Prim.Native.Nat.{_+_, _≤_};
 ghost use lib.ListN.{length};
-ghost use Rattle.text.specs.Lines.{Room, Wrote, answerLine, stopLine, tillLine, signed};
+ghost use Rattle.text.specs.Lines.{RoomFor, Wrote, answerLine, stopLine, tillLine, signed};
 
 // A word of four letters and a space; the next place.
 fn put_word(out: &mut [u8], at: usize, a: u8, b: u8, c: u8, d: u8) -> usize
@@ -41,7 +41,7 @@ pub(crate) fn put_answer_line(
     number: u32,
     cents: u64,
 ) -> usize
-    requires { ⌜ Room (now out) at (answerLine byte code number cents) ⌝ }
+    requires { ⌜ RoomFor (now out) at (answerLine byte code number cents) ⌝ }
     ensures { λ r. ⌜ Wrote (now (out .entry)) at (answerLine byte code number cents) (now (out .exit)) r ⌝ }
 {
     put_four(out, at, byte as u64, code as u64, number as u64, cents, 10)
@@ -49,7 +49,7 @@ pub(crate) fn put_answer_line(
 
 // The line of a stop code; the next place.
 pub fn put_stop_line(out: &mut [u8], at: usize, code: u8) -> usize
-    requires { ⌜ Room (now out) at (stopLine code) ⌝ }
+    requires { ⌜ RoomFor (now out) at (stopLine code) ⌝ }
     ensures { λ r. ⌜ Wrote (now (out .entry)) at (stopLine code) (now (out .exit)) r ⌝ }
 {
     let next = put_word(out, at, b's', b't', b'o', b'p');
@@ -58,7 +58,7 @@ pub fn put_stop_line(out: &mut [u8], at: usize, code: u8) -> usize
 
 // The line of the till; the next place.
 pub fn put_till_line(out: &mut [u8], at: usize, till: Till) -> usize
-    requires { ⌜ Room (now out) at (tillLine till) ⌝ }
+    requires { ⌜ RoomFor (now out) at (tillLine till) ⌝ }
     ensures { λ r. ⌜ Wrote (now (out .entry)) at (tillLine till) (now (out .exit)) r ⌝ }
 {
     let first = put_word(out, at, b't', b'i', b'l', b'l');

@@ -15,7 +15,7 @@ use Rattle.house.specs.Commands.{ball, ballsWith, replies, settlement}
 use Rattle.house.specs.View.{view}
 use Rattle.draw.specs.Settling.{spread, fullIn, Prized, SharedOut}
 use Rattle.draw.specs.Sharing.{stakesOf}
-use Rattle.draw.specs.declared.figures.Figures.{Figures}
+use Rattle.draw.specs.declared.figures.GameFigures.{GameFigures}
 use Rattle.house.proofs.ReachedHouses.{Sure, reached-sure}
 use Rattle.house.proofs.ViewLaws.{carried-done, balls-count, live-count}
 use Rattle.draw.proofs.ClosingLaws.{spread-fills}
@@ -102,10 +102,10 @@ foundFor c = c .before .before .before .before
 
 -- the stakes found are those of the jackpots for 6 and 8
 number-six : (c : tie.After-find-figures) → c .find-figures .result .six .jackpot ≡ 6
-number-six c = ap (λ (f : Figures). f .six .jackpot) (c .find-figures .ensures)
+number-six c = ap (λ (f : GameFigures). f .six .jackpot) (c .find-figures .ensures)
 
 number-eight : (c : tie.After-find-figures) → c .find-figures .result .eight .jackpot ≡ 8
-number-eight c = ap (λ (f : Figures). f .eight .jackpot) (c .find-figures .ensures)
+number-eight c = ap (λ (f : GameFigures). f .eight .jackpot) (c .find-figures .ensures)
 
 settle-jackpot-requires : tie.Need-settle-jackpot-requires
 unfolding view
@@ -118,7 +118,7 @@ settle-jackpot-requires c κs =
       (
         record { marks = s .args .marks .now; draw = drawOf s; reached = s .pre .0; matches = matches found },
         (
-          ap (λ (f : Figures). f .six) (figured .find-figures .ensures)
+          ap (λ (f : GameFigures). f .six) (figured .find-figures .ensures)
               ∙ ap (λ j. stakesOf (s .args .rows .now) (matchTable found) (s .args .house .game) j (s .args .house .live)) (sym (number-six figured)),
           (
             (pools .primary, pools .secondary, pools .reimbursement, pools .debt),
@@ -166,7 +166,7 @@ settle-jackpot-requires-2 c κs =
       (
         record { marks = s .args .marks .now; draw = drawOf s; reached = s .pre .0; matches = matches found },
         (
-          ap (λ (f : Figures). f .eight) (figured .find-figures .ensures)
+          ap (λ (f : GameFigures). f .eight) (figured .find-figures .ensures)
               ∙ ap (λ j. stakesOf (s .args .rows .now) (matchTable found) (s .args .house .game) j (s .args .house .live)) (sym (number-eight figured)),
           (
             (pools .primary, pools .secondary, pools .reimbursement, pools .debt),
@@ -185,7 +185,7 @@ begun c = startOf (foundBefore (sixBefore c))
 abbrev awardTable : tie.After-settle-jackpot2 → List ℕ
 awardTable c = c .settle-jackpot2 .last .1 .1 .1 .1 .1 .0
 
-abbrev figures : tie.After-settle-jackpot2 → Figures
+abbrev figures : tie.After-settle-jackpot2 → GameFigures
 figures c = figuredBefore (sixBefore c) .find-figures .result
 
 shared-eight : (c : tie.After-settle-jackpot2)
@@ -226,8 +226,8 @@ found c =
     let told = figuredBefore (sixBefore c) .find-figures .ensures in
     found-by (model s) (s .args .number) (figures c .prizes) (figures c .stakes) (sixBefore c .settle-jackpot .result) (c .settle-jackpot2 .result)
     (prizeTable (foundBefore (sixBefore c))) (sixTable (sixBefore c)) (awardTable c)
-    (ap (λ (f : Figures). f .prizes) told ∙ total (foundBefore (sixBefore c)))
-    (ap (λ (f : Figures). f .stakes) told ∙ paid-view (s .args .house) (s .args .rows .now) (s .args .marks .now))
+    (ap (λ (f : GameFigures). f .prizes) told ∙ total (foundBefore (sixBefore c)))
+    (ap (λ (f : GameFigures). f .stakes) told ∙ paid-view (s .args .house) (s .args .rows .now) (s .args .marks .now))
     (shared-six (sixBefore c)) (shared-eight c)
 
 next-game-requires : tie.Need-next-game-requires
