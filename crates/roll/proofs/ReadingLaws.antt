@@ -21,7 +21,7 @@ use Rattle.roll.specs.Decode.{isKnown, operandBytes, commandOf, recordOf
 use Rattle.roll.specs.Reading.{Reading, stopped, answered, readTurns, readRoll, AllRefused}
 use Rattle.roll.specs.Orders.{orderOf, decodedAt, verdictOf}
 use Rattle.roll.specs.declared.decode.Decoded.the-variants.{Whole, Stop}
-use Rattle.roll.specs.declared.reader.Verdict.the-variants.{Carried, Refused}
+use Rattle.roll.specs.declared.reader.Verdict.the-variants.{Accepted, Refused}
 use Rattle.roll.proofs.DecodeLaws.{order-meant, Stands}
 
 -- ---- one turn
@@ -140,15 +140,15 @@ module _ (book entry : List ℕ) (at : ℕ) (long : length entry ≡ 14) (room :
 
 -- ---- verdicts
 
-pub verdict-carried :
-    (a : Answer) (number cents : ℕ) → verdictOf a ≡ Carried number cents → record { code = 0; number = number; cents = cents } ≡ a
+pub verdict-accepted :
+    (a : Answer) (number cents : ℕ) → verdictOf a ≡ Accepted number cents → record { code = 0; number = number; cents = cents } ≡ a
 unfolding verdictOf
-verdict-carried a number cents e = go (eqb (a .code) 0) refl e
+verdict-accepted a number cents e = go (eqb (a .code) 0) refl e
   where
     go :
         (carried : Bool)
         → eqb (a .code) 0 ≡ carried
-        → cond carried (Carried (a .number) (a .cents)) (Refused (a .code)) ≡ Carried number cents
+        → cond carried (Accepted (a .number) (a .cents)) (Refused (a .code)) ≡ Accepted number cents
         → record { code = 0; number = number; cents = cents } ≡ a
     go true p q =
         let code : 0 ≡ a .code = sym (eqb-true (a .code) 0 p) in
@@ -160,7 +160,7 @@ verdict-carried a number cents e = go (eqb (a .code) 0) refl e
 pub verdict-refused : (a : Answer) (code : ℕ) → verdictOf a ≡ Refused code → a .code ≡ 0 → ⊥
 unfolding verdictOf
 verdict-refused a code e zero-code =
-    let carried : Carried (a .number) (a .cents) ≡ Refused code = rw (eq-eqb (a .code) 0 zero-code) at e in
+    let carried : Accepted (a .number) (a .cents) ≡ Refused code = rw (eq-eqb (a .code) 0 zero-code) at e in
     let z : _≡_ {A = ℕ} 0 1 = cc in
     absurd (omega arith)
 

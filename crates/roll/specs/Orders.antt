@@ -18,7 +18,7 @@ use Rattle.roll.specs.declared.decode.Decoded.{Decoded}
 use Rattle.roll.specs.declared.decode.Decoded.the-variants.{Whole, Stop}
 use Rattle.roll.specs.declared.reader.Report.{Report}
 use Rattle.roll.specs.declared.reader.Verdict.{Verdict}
-use Rattle.roll.specs.declared.reader.Verdict.the-variants.{Carried, Refused}
+use Rattle.roll.specs.declared.reader.Verdict.the-variants.{Accepted, Refused}
 
 -- Sell's operands up to the marks
 abbrev pub saleIn : List ℕ → Sale
@@ -56,7 +56,7 @@ stopOf (Stop code) = code
 
 -- how a command ended, from its answer
 unfoldable pub verdictOf : Answer → Verdict
-verdictOf a = cond (eqb (a .code) 0) (Carried (a .number) (a .cents)) (Refused (a .code))
+verdictOf a = cond (eqb (a .code) 0) (Accepted (a .number) (a .cents)) (Refused (a .code))
 
 -- the reading of a roll into a book, from the house that is handed in with the words and marks that are lent
 abbrev pub readingOf : House → List ℕ → List ℕ → List ℕ → List ℕ → Reading

@@ -21,9 +21,9 @@ pub struct Report {
     pub answers: usize,
 }
 
-// How a command ended: carried out, with its number and cents, or refused.
+// How a command ended: accepted, with its number and cents, or refused.
 enum Verdict {
-    Carried(u32, u64),
+    Accepted(u32, u64),
     Refused(u8),
 }
 
@@ -32,7 +32,7 @@ fn verdict_of(answer: Answer) -> Verdict
 {
     let code = answer.code;
     if code == 0 {
-        return Verdict::Carried(answer.number, answer.cents);
+        return Verdict::Accepted(answer.number, answer.cents);
     }
     Verdict::Refused(code)
 }
@@ -115,7 +115,7 @@ pub fn read_roll(
         answers += 1;
         let answer = outcome.answer;
         let code = answer.code;
-        let Verdict::Carried(number, cents) = verdict_of(answer) else {
+        let Verdict::Accepted(number, cents) = verdict_of(answer) else {
             write_record(&mut book[written..], byte, code, 0, 0);
             continue;
         };

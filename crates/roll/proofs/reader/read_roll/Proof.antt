@@ -23,7 +23,7 @@ use Rattle.roll.specs.declared.reader.Report.{Report}
 use Rattle.roll.specs.declared.decode.Decoded.the-variants.{Stop}
 use Rattle.roll.proofs.DecodeLaws.{Stands, stands}
 use Rattle.roll.proofs.AnswerBounds.{refused-plain}
-use Rattle.roll.proofs.ReadingLaws.{Ahead, Ended, refused-here, ahead-starts, ahead-stops, ahead-full, ahead-more, command-within, part-written, book-long, record-long, verdict-carried, verdict-refused}
+use Rattle.roll.proofs.ReadingLaws.{Ahead, Ended, refused-here, ahead-starts, ahead-stops, ahead-full, ahead-more, command-within, part-written, book-long, record-long, verdict-accepted, verdict-refused}
 use Rattle.roll.proofs.reader.read_roll.Statement.{statement}
 use Rattle.roll.proofs.reader.read_roll.Tie as tie
 
@@ -264,7 +264,7 @@ loop-again-2 c =
     let at = c .before .before .before .before .before .before .before in
     let found = c .before .before .before .before .before .number .given in
     again at (record { code = 0; number = found .0 .0; cents = found .0 .1 .0 }) (c .before .before .write-record2 .last .0)
-    (verdict-carried (at .before .before .before .carry-out .result .answer) (found .0 .0) (found .0 .1 .0) (sym (at .verdict-of .ensures) ∙ found .1))
+    (verdict-accepted (at .before .before .before .carry-out .result .answer) (found .0 .0) (found .0 .1 .0) (sym (at .verdict-of .ensures) ∙ found .1))
     (c .before .before .write-record2 .ensures)
 
 pub read-roll-spec : {M : Type 1} → statement M
