@@ -58,7 +58,8 @@ pub record Carries (left mask pair : ℕ) (table : List ℕ) : Type 0 where
   pub added : pair ≡ taken mask (drop (suc left) table)
   pub small : pair ≤ 2 ^ 20 * (8 - left)
 
--- ---- what the calls of the walk are lent in one table: the stake, the types byte, the number of the kind, and then the table of the groups
+-- ---- what the calls of the walk are lent in one table, so that they pass on few parameters: the stake, the types byte, the number of the kind,
+-- and then the table of the groups. The two bytes stand in words, and are read as bytes whatever the words hold.
 
 abbrev pub stakeIn : List ℕ → ℕ
 stakeIn table = getD table 0 0
