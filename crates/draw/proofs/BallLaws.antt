@@ -292,7 +292,7 @@ unfolding view
 matches-by h words marks draw paid full prized = ap (λ n. take n full) (sym (live-count h words marks)) ∙ prized .matches
 
 -- what the code found of a settled game
-pub record Found (m : Model) (b cents staked : ℕ) (six eight : Part) : Type 0 where
+pub record GameFound (m : Model) (b cents staked : ℕ) (six eight : Part) : Type 0 where
   pub prizes : cents ≡ settlement b m .prizes
   pub stakes : staked ≡ stakesDrawn m
   pub shares : six .shares + eight .shares ≡ settlement b m .shares
@@ -307,7 +307,7 @@ pub found-by : (m : Model) (b cents staked : ℕ) (six eight : Part) (paid paid�
     → staked ≡ stakesDrawn m
     → SharedOut m 6 (lastDraw m b) (m .six) paid paid′ six
     → SharedOut m 8 (lastDraw m b) (m .eight) paid′ paid″ eight
-    → Found m b cents staked six eight
+    → GameFound m b cents staked six eight
 found-by m b cents staked six eight paid paid′ paid″ prizes stakes s e =
     let p = parted m b in
     record {
@@ -327,7 +327,7 @@ pub settled-view : (h : House) (words marks words′ marks′ : List ℕ) (b lef
     → take left (ticketsOf words′ marks′)
     ≡ stillLive (h .game + 1)
     (map (finishedOn (h .day) (h .game + 1)) (awarded (h .game) (settlement b (view h words marks) .awards) (view h words marks .live)))
-    → Found (view h words marks) b cents staked six eight
+    → GameFound (view h words marks) b cents staked six eight
     → view (houseAfterGame h left cents staked six eight) words′ marks′ ≡ gameSettled b (view h words marks)
 unfolding view gameSettled below
 settled-view h words marks words′ marks′ b left cents staked six eight few stay f =

@@ -17,7 +17,7 @@ use Rattle.rules.specs.Checks.{wayCount}
 use Rattle.rules.specs.Bounds.{Roomy, Sharing}
 use Rattle.rules.specs.Jackpots.{Winner, winningStake, winningStakes, shareOf, oddCents, sharesFrom, jackpotWon, jackpotShares, contribution, contributed, seedOf, reseeded, repaidOf, repaid}
 use Rattle.rules.proofs.ShareLaws.{wholeShares, winningWays, ticket-within, whole-within, length-shares-from, length-shares}
-use Rattle.rules.specs.Ways.{sizes, hits, ways, taken}
+use Rattle.rules.specs.Ways.{sizes, hits, ways, maskSum}
 use Rattle.rules.specs.Settle.{Entry, fullBy, fullMatches, playsFor, winnerOf, paidFor, settleJackpot}
 use Rattle.rules.specs.declared.terms.Draw.{Draw}
 use Rattle.rules.specs.declared.jackpot.Jackpot.{Jackpot}
@@ -541,7 +541,7 @@ module _
         go true =
             omega (
               arith,
-              length-keep-le (λ m. eqb (taken m (hits draw (ticket i .operands .marks))) (taken m (sizes (ticket i .operands .marks)))) (ways (ticket i .operands .groups) (ticket i .operands .types)),
+              length-keep-le (λ m. eqb (maskSum m (hits draw (ticket i .operands .marks))) (maskSum m (sizes (ticket i .operands .marks)))) (ways (ticket i .operands .groups) (ticket i .operands .types)),
               ways-within (ticket i .operands) (kept-at i b .checked),
             )
         go false = omega arith

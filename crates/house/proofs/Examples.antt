@@ -7,7 +7,7 @@ use lib.ListN.{replicate}
 use lib.Count.{ones, onesIn}
 use Rattle.rules.specs.Lists.{sum, below, keep, every, any, member}
 use Rattle.rules.specs.Kinds.{kindOf, within}
-use Rattle.rules.specs.Ways.{markOf, sizeOf, hitsOf, byGroup, nominated, ways, taken, waySizes}
+use Rattle.rules.specs.Ways.{markOf, sizeOf, hitsOf, byGroup, nominated, ways, maskSum, waySizes}
 use Rattle.rules.specs.Price.{paidGames, minimumStake, stakeFits, charge}
 use Rattle.rules.specs.Checks.{firstMet, marksFit, operandRows}
 use Rattle.rules.specs.Schedules.{standardRows, cell}
@@ -49,5 +49,5 @@ pub settled-examples :
     × (run (game 1 (first 1 6 1 100 ∷ [])) .house .six .debt ≡ 199990)
     × (paysClaim 1 (game 1 (first 1 6 1 100 ∷ first 1 6 1 200 ∷ [])) ≡ 33349)
     × (paysClaim 2 (game 1 (first 1 6 1 100 ∷ first 1 6 1 200 ∷ [])) ≡ 66696)
-unfolding sum below keep every any member kindOf within markOf sizeOf hitsOf byGroup nominated ways taken waySizes paidGames minimumStake stakeFits charge firstMet marksFit operandRows standardRows cell dollars prize floorCount cutBase joins roundOf rounds flooredOf cutPrize payout contribution contributed winningStakes shareOf oddCents sharesFrom jackpotWon jackpotShares seedOf reseeded repaid prizesBy fullBy jackpotBy winnerOf paidFor majorsOf prizesOf settleJackpot settle runsIn gamesLeft paidStakes ticketAt stillLive rowsOf codeOf opened sold settlement awarded gameSettled ballEntered claimed act reply step next runFrom changed ones onesIn zipWith
+unfolding sum below keep every any member kindOf within markOf sizeOf hitsOf byGroup nominated ways maskSum waySizes paidGames minimumStake stakeFits charge firstMet marksFit operandRows standardRows cell dollars prize floorCount cutBase joins roundOf rounds flooredOf cutPrize payout contribution contributed winningStakes shareOf oddCents sharesFrom jackpotWon jackpotShares seedOf reseeded repaid prizesBy fullBy jackpotBy winnerOf paidFor majorsOf prizesOf settleJackpot settle runsIn gamesLeft paidStakes ticketAt stillLive rowsOf codeOf opened sold settlement awarded gameSettled ballEntered claimed act reply step next runFrom changed ones onesIn zipWith
 settled-examples = (refl, refl, refl, refl, refl, refl, refl, refl, refl, refl, refl)

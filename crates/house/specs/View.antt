@@ -1,4 +1,4 @@
--- What the house's struct and the lent buffers say: "the live tickets stand in two buffers". The view is the model that the commands' contracts
+-- What the house's struct and the lent buffers say. The view is the model that the commands' contracts
 -- speak of; rows beyond the live ones are no part of it.
 use Prim.Native.Nat.{ℕ, suc, _+_, _*_, _≤_, _<_}
 use mathlib.Core.Bool.{cond}

@@ -18,6 +18,7 @@ pub fn known_words(rows: &[u64; 3200])
 
 fn lent_words(_: &[u64]) {}
 
+// The same of the marks.
 pub fn known_marks(marks: &[u8; 16000])
     ensures { λ r. ⌜ length (now (marks .entry)) ≡ 16000 ⌝ }
 {
@@ -83,7 +84,7 @@ fn put_words(rows: &mut [u64; 3200], at: usize, words: &[u64])
 }
 
 // Another row at a place.
-pub fn write_row(rows: &mut [u64; 3200], i: usize, row: Row)
+pub(crate) fn write_row(rows: &mut [u64; 3200], i: usize, row: Row)
     requires { ⌜ IsRow i ⌝ }
     ensures { λ r. ⌜ now (rows .exit) ≡ putRow (now (rows .entry)) (i * 16) row ⌝ }
 {
@@ -108,7 +109,7 @@ pub fn write_row(rows: &mut [u64; 3200], i: usize, row: Row)
 }
 
 // A ticket's marks, written from the 80 of a sale.
-pub fn write_marks(marks: &mut [u8; 16000], i: usize, from: &[u8])
+pub(crate) fn write_marks(marks: &mut [u8; 16000], i: usize, from: &[u8])
     requires { ⌜ MarkedRow i (now from) ⌝ }
     ensures { λ r. ⌜ now (marks .exit) ≡ putMarks (now (marks .entry)) i (now (from .entry)) ⌝ }
 {

@@ -12,7 +12,7 @@ use lib.Seq.{sets, drop-length, drop-cons, getD-set-same, getD-set-other, getD-d
 use borrow.Author.Tests.{leb-true, leb-false}
 use Rattle.rules.specs.Lists.{sum, keep}
 use Rattle.rules.specs.Kinds.{kindOf, kindNumber}
-use Rattle.rules.specs.Ways.{ways, taken}
+use Rattle.rules.specs.Ways.{ways, maskSum}
 use Rattle.rules.specs.Prize.{majorFloor, isMajor, prize}
 use Rattle.rules.specs.Settle.{prizesBy, fullBy}
 use Rattle.rules.specs.Passes.{waysFrom}
@@ -22,7 +22,7 @@ use Rattle.rules.specs.declared.terms.Kind.the-variants.{Standard, Jackp
 use Rattle.rules.specs.declared.terms.Schedule.the-variants.{One, Two}
 use Rattle.rules.specs.declared.terms.Terms.{Terms}
 use Rattle.rules.proofs.KeepLaws.{keep-append, length-keep-le, sum-within}
-use Rattle.rules.proofs.WayLaws.{sum-append, keep-map, ways-few, next, taken-none, taken-with, taken-without}
+use Rattle.rules.proofs.WayLaws.{sum-append, keep-map, ways-few, next, maskSum-none, maskSum-with, maskSum-without}
 use Rattle.rules.proofs.WalkLaws.{waysFrom-ways}
 
 -- ---- stores one behind the other
@@ -195,10 +195,10 @@ walk-of t groups byte e g =
 -- ---- what the walk carries
 
 pub start-carries : (g : ℕ) (table : List ℕ) → Carries g 0 0 table
-start-carries g table = record { added = sym (taken-none (drop (suc g) table)); small = omega arith }
+start-carries g table = record { added = sym (maskSum-none (drop (suc g) table)); small = omega arith }
 
-pub carries-end : {left m pair : ℕ} {table : List ℕ} → left ≡ 0 → Carries left m pair table → pair ≡ taken m (drop 1 table)
-carries-end {m = m} {table = table} none c = c .added ∙ ap (λ k. taken m (drop (suc k) table)) none
+pub carries-end : {left m pair : ℕ} {table : List ℕ} → left ≡ 0 → Carries left m pair table → pair ≡ maskSum m (drop 1 table)
+carries-end {m = m} {table = table} none c = c .added ∙ ap (λ k. maskSum m (drop (suc k) table)) none
 
 -- a group of a table is a number below 2^20
 pub group-small : (table : List ℕ) → Groups table → (k : ℕ) → getD table k 0 < 2 ^ 20
@@ -209,15 +209,15 @@ module _ {left : ℕ} (some : left ≡ 0 → ⊥) {m pair : ℕ} {table : List �
   carries-with few g c =
       record {
         added =
-            ap (λ k. k + getD table left 0) (c .added) ∙ sym (taken-with m left table)
-            ∙ ap (λ k. taken (m * 2 + 1) (drop k table)) (sym (next some));
+            ap (λ k. k + getD table left 0) (c .added) ∙ sym (maskSum-with m left table)
+            ∙ ap (λ k. maskSum (m * 2 + 1) (drop k table)) (sym (next some));
         small = omega (arith, c .small, group-small table g left, pos-of-ne-zero some);
       }
 
   pub carries-without : left ≤ 8 → Carries left m pair table → Carries (left - 1) (m * 2) pair table
   carries-without few c =
       record {
-        added = c .added ∙ sym (taken-without m left table) ∙ ap (λ k. taken (m * 2) (drop k table)) (sym (next some));
+        added = c .added ∙ sym (maskSum-without m left table) ∙ ap (λ k. maskSum (m * 2) (drop k table)) (sym (next some));
         small = omega (arith, c .small, pos-of-ne-zero some);
       }
 
@@ -227,53 +227,53 @@ bit-le : (m n : ℕ) → m % 2 * n ≤ n
 bit-le m n = let bit : m % 2 ≤ 1 = omega arith in omega (arith, mul-le-mul-right n bit)
 
 -- what a way takes of the groups has what it takes of their sizes and of their hits
-taken-split : (m : ℕ) (gs : List ℕ) → taken m gs ≡ taken m (map sizeIn gs) * 4096 + taken m (map hitsIn gs)
-unfolding taken
-taken-split m [] = refl
-taken-split m (x ∷ xs) =
+maskSum-split : (m : ℕ) (gs : List ℕ) → maskSum m gs ≡ maskSum m (map sizeIn gs) * 4096 + maskSum m (map hitsIn gs)
+unfolding maskSum
+maskSum-split m [] = refl
+maskSum-split m (x ∷ xs) =
     let whole : x ≡ x / 4096 * 4096 + x % 4096 = omega arith in
     let parts : m % 2 * x ≡ m % 2 * (x / 4096) * 4096 + m % 2 * (x % 4096) =
     ap (λ n. m % 2 * n) whole ∙ mul-add (m % 2) (x / 4096 * 4096) (x % 4096)
     ∙ ap (λ n. n + m % 2 * (x % 4096)) (sym (mul-assoc (m % 2) (x / 4096) 4096)) in
-    omega (arith, taken-split (m / 2) xs)
+    omega (arith, maskSum-split (m / 2) xs)
 
-taken-few : (m : ℕ) (gs : List ℕ) → ((k : ℕ) → hitsIn (getD gs k 0) ≤ 255) → taken m (map hitsIn gs) ≤ 255 * length gs
-unfolding taken
-taken-few m [] few = omega arith
-taken-few m (x ∷ xs) few = omega (arith, bit-le m (hitsIn x), few 0, taken-few (m / 2) xs (λ k. few (suc k)))
+maskSum-few : (m : ℕ) (gs : List ℕ) → ((k : ℕ) → hitsIn (getD gs k 0) ≤ 255) → maskSum m (map hitsIn gs) ≤ 255 * length gs
+unfolding maskSum
+maskSum-few m [] few = omega arith
+maskSum-few m (x ∷ xs) few = omega (arith, bit-le m (hitsIn x), few 0, maskSum-few (m / 2) xs (λ k. few (suc k)))
 
 module _ (table : List ℕ) (g : Groups table) (m : ℕ) where
-  hits-few : taken m (groupHits table) < 4096
+  hits-few : maskSum m (groupHits table) < 4096
   hits-few =
       omega (
         arith,
-        taken-few m (drop 1 table) (λ k. subst (λ n. hitsIn n ≤ 255) (sym (getD-drop 1 table k 0)) (g .hits (1 + k))),
+        maskSum-few m (drop 1 table) (λ k. subst (λ n. hitsIn n ≤ 255) (sym (getD-drop 1 table k 0)) (g .hits (1 + k))),
         length-drop 1 table,
         g .long,
       )
 
-  way-size : sizeIn (taken m (drop 1 table)) ≡ taken m (groupSizes table)
-  way-size = omega (arith, taken-split m (drop 1 table), hits-few)
+  way-size : sizeIn (maskSum m (drop 1 table)) ≡ maskSum m (groupSizes table)
+  way-size = omega (arith, maskSum-split m (drop 1 table), hits-few)
 
-  way-hits : hitsIn (taken m (drop 1 table)) ≡ taken m (groupHits table)
-  way-hits = omega (arith, taken-split m (drop 1 table), hits-few)
+  way-hits : hitsIn (maskSum m (drop 1 table)) ≡ maskSum m (groupHits table)
+  way-hits = omega (arith, maskSum-split m (drop 1 table), hits-few)
 
 module _ (t : Terms) (table : List ℕ) (g : Groups table) where
   abbrev all : List ℕ
   all = pairsFrom (t .types) table (t .groups) 0
 
   abbrev wayPair : ℕ → ℕ
-  wayPair m = taken m (drop 1 table)
+  wayPair m = maskSum m (drop 1 table)
 
   over-ways : all ≡ map wayPair (ways (t .groups) (t .types))
   over-ways = ap (map wayPair) (waysFrom-ways (t .groups) (t .types))
 
   same-prize : _≡_ {A = ℕ → ℕ} (λ m. prizeIn (t .kind) (t .stake) (wayPair m))
-      (λ m. prize (t .kind) (t .stake) (taken m (groupSizes table)) (taken m (groupHits table)))
+      (λ m. prize (t .kind) (t .stake) (maskSum m (groupSizes table)) (maskSum m (groupHits table)))
   same-prize i m = prize (t .kind) (t .stake) (way-size table g m i) (way-hits table g m i)
 
   same-full : _≡_ {A = ℕ → Bool} (λ m. eqb (hitsIn (wayPair m)) (sizeIn (wayPair m)))
-      (λ m. eqb (taken m (groupHits table)) (taken m (groupSizes table)))
+      (λ m. eqb (maskSum m (groupHits table)) (maskSum m (groupSizes table)))
   same-full i m = eqb (way-hits table g m i) (way-size table g m i)
 
   -- the prizes of the walk are those of the rule

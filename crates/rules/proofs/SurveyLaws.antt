@@ -12,7 +12,7 @@ use lib.Seq.{getD-set-same, getD-set-other}
 use borrow.Author.Tests.{le-leb, lt-leb, leb-true, leb-false}
 use Rattle.rules.specs.Lists.{every}
 use Rattle.rules.specs.Kinds.{within}
-use Rattle.rules.specs.Ways.{ways, taken, waySizes}
+use Rattle.rules.specs.Ways.{ways, maskSum, waySizes}
 use Rattle.rules.specs.Passes.{waysFrom, sizesFrom, noted, surveyFrom, surveyOf, surveyIn, Unfilled}
 use Rattle.rules.specs.declared.survey.Survey.{Survey}
 use Rattle.rules.proofs.WayLaws.{ways-few}
@@ -46,13 +46,13 @@ module _ (xs ys : List ℕ) {table : List ℕ} (u : Unfilled (xs ++ ys) table) w
 
 pub sizesFrom-ways : (g types : ℕ) (sizes : List ℕ) → sizesFrom types sizes g 0 ≡ waySizes g types sizes
 unfolding waySizes
-sizesFrom-ways g types sizes = ap (map (λ m. taken m sizes)) (waysFrom-ways g types)
+sizesFrom-ways g types sizes = ap (map (λ m. maskSum m sizes)) (waysFrom-ways g types)
 
 pub surveyed-count : (g types : ℕ) (sizes : List ℕ) → surveyOf (waySizes g types sizes) .count ≡ length (ways g types)
 unfolding waySizes
 surveyed-count g types sizes =
     let xs = waySizes g types sizes in
-    survey-count (record { count = 0; least = 255; most = 0 }) xs ∙ zero-add (length xs) ∙ length-map (ways g types) (λ m. taken m sizes)
+    survey-count (record { count = 0; least = 255; most = 0 }) xs ∙ zero-add (length xs) ∙ length-map (ways g types) (λ m. maskSum m sizes)
 
 -- the table that the walk starts with has room for them
 pub start-unfilled : {g : ℕ} → g ≤ 8 → (types : ℕ) (sizes : List ℕ) → Unfilled (sizesFrom types sizes g 0) (0 ∷ 255 ∷ 0 ∷ [])
@@ -61,7 +61,7 @@ start-unfilled {g} few types sizes =
       room =
           omega (
             arith,
-            length-map (waysFrom types g 0) (λ m. taken m sizes),
+            length-map (waysFrom types g 0) (λ m. maskSum m sizes),
             ap length (waysFrom-ways g types),
             ways-few types few,
           );

@@ -9,7 +9,7 @@ use lib.ListN.{length, getD, drop}
 use lib.Count.{ones, onesIn}
 use lib.Pow.{pow-pos, pow-mono, suc-ones}
 use Rattle.rules.specs.Lists.{sum, below, keep}
-use Rattle.rules.specs.Ways.{nominated, ways, taken}
+use Rattle.rules.specs.Ways.{nominated, ways, maskSum}
 use Rattle.rules.specs.Bounds.{Place, AddedUp}
 
 -- ---- lengths as sums, and choices
@@ -91,28 +91,28 @@ ways-few {g} types h = omega (arith, ways-lt g types, small)
 
 -- ---- the figures that the walk carries
 
-pub taken-none : (xs : List ℕ) → taken 0 xs ≡ 0
-unfolding taken
-taken-none [] = refl
-taken-none (x ∷ xs) = omega (arith, zero-mul x, taken-none xs)
+pub maskSum-none : (xs : List ℕ) → maskSum 0 xs ≡ 0
+unfolding maskSum
+maskSum-none [] = refl
+maskSum-none (x ∷ xs) = omega (arith, zero-mul x, maskSum-none xs)
 
-pub taken-with : (m n : ℕ) (xs : List ℕ) → taken (m * 2 + 1) (drop n xs) ≡ taken m (drop (suc n) xs) + getD xs n 0
-unfolding taken
-taken-with m zero [] = refl
-taken-with m zero (x ∷ xs) =
-    ap (λ k. k * x + taken ((m * 2 + 1) / 2) xs) (mul-add-mod-self-right m 2 1)
-    ∙ ap (λ k. 1 * x + taken k xs) (mul-add-div-right (zero-lt-suc 1) m 1 ∙ add-zero m) ∙ omega (arith, one-mul x)
-taken-with m (suc n) [] = refl
-taken-with m (suc n) (x ∷ xs) = taken-with m n xs
+pub maskSum-with : (m n : ℕ) (xs : List ℕ) → maskSum (m * 2 + 1) (drop n xs) ≡ maskSum m (drop (suc n) xs) + getD xs n 0
+unfolding maskSum
+maskSum-with m zero [] = refl
+maskSum-with m zero (x ∷ xs) =
+    ap (λ k. k * x + maskSum ((m * 2 + 1) / 2) xs) (mul-add-mod-self-right m 2 1)
+    ∙ ap (λ k. 1 * x + maskSum k xs) (mul-add-div-right (zero-lt-suc 1) m 1 ∙ add-zero m) ∙ omega (arith, one-mul x)
+maskSum-with m (suc n) [] = refl
+maskSum-with m (suc n) (x ∷ xs) = maskSum-with m n xs
 
-pub taken-without : (m n : ℕ) (xs : List ℕ) → taken (m * 2) (drop n xs) ≡ taken m (drop (suc n) xs)
-unfolding taken
-taken-without m zero [] = refl
-taken-without m zero (x ∷ xs) =
-    ap (λ k. k * x + taken (m * 2 / 2) xs) (mul-mod-left m 2)
-    ∙ ap (λ k. 0 * x + taken k xs) (mul-div-cancel m (zero-lt-suc 1)) ∙ omega (arith, zero-mul x)
-taken-without m (suc n) [] = refl
-taken-without m (suc n) (x ∷ xs) = taken-without m n xs
+pub maskSum-without : (m n : ℕ) (xs : List ℕ) → maskSum (m * 2) (drop n xs) ≡ maskSum m (drop (suc n) xs)
+unfolding maskSum
+maskSum-without m zero [] = refl
+maskSum-without m zero (x ∷ xs) =
+    ap (λ k. k * x + maskSum (m * 2 / 2) xs) (mul-mod-left m 2)
+    ∙ ap (λ k. 0 * x + maskSum k xs) (mul-div-cancel m (zero-lt-suc 1)) ∙ omega (arith, zero-mul x)
+maskSum-without m (suc n) [] = refl
+maskSum-without m (suc n) (x ∷ xs) = maskSum-without m n xs
 
 -- ---- the steps of the walk, in the code's terms
 
@@ -120,11 +120,11 @@ pub start-place : {g : ℕ} → g ≤ 8 → Place g 0
 start-place {g} h = record { groups = h; chosen = pow-pos (8 - g) }
 
 pub start-carried : (g : ℕ) (xs : List ℕ) → AddedUp g 0 0 xs
-start-carried g xs = record { added = sym (taken-none (drop g xs)); small = omega arith }
+start-carried g xs = record { added = sym (maskSum-none (drop g xs)); small = omega arith }
 
 -- where no group is left, what is carried is all that the mask takes
-pub carried-all : {left m total : ℕ} {xs : List ℕ} → left ≡ 0 → AddedUp left m total xs → total ≡ taken m xs
-carried-all {m = m} {xs = xs} none c = c .added ∙ ap (λ k. taken m (drop k xs)) none
+pub carried-all : {left m total : ℕ} {xs : List ℕ} → left ≡ 0 → AddedUp left m total xs → total ≡ maskSum m xs
+carried-all {m = m} {xs = xs} none c = c .added ∙ ap (λ k. maskSum m (drop k xs)) none
 
 pub mask-lt : {left m : ℕ} → Place left m → m < 2 ^ 8
 mask-lt {left} p = lt-of-lt-of-le (p .chosen) (pow-mono {j = 8} (sub-le 8 left))
@@ -153,14 +153,14 @@ module _ {left : ℕ} (some : left ≡ 0 → ⊥) where
     carried-with h c byte =
         record {
           added =
-              ap (λ k. k + getD xs (left - 1) 0) (c .added ∙ ap (λ k. taken m (drop k xs)) (sym next))
-              ∙ sym (taken-with m (left - 1) xs);
+              ap (λ k. k + getD xs (left - 1) 0) (c .added ∙ ap (λ k. maskSum m (drop k xs)) (sym next))
+              ∙ sym (maskSum-with m (left - 1) xs);
           small = omega (arith, pos-of-ne-zero some);
         }
 
     pub carried-without : AddedUp left m total xs → AddedUp (left - 1) (m * 2) total xs
     carried-without c =
         record {
-          added = c .added ∙ ap (λ k. taken m (drop k xs)) (sym next) ∙ sym (taken-without m (left - 1) xs);
+          added = c .added ∙ ap (λ k. maskSum m (drop k xs)) (sym next) ∙ sym (maskSum-without m (left - 1) xs);
           small = omega arith;
         }

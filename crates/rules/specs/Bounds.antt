@@ -4,7 +4,7 @@ use Prim.Native.Nat.{ℕ, _*_, _-_, _≤_, _<_, _^_}
 use mathlib.Core.Path.{_≡_}
 use mathlib.Core.List.{List}
 use lib.ListN.{length, drop, getD}
-use Rattle.rules.specs.Ways.{taken}
+use Rattle.rules.specs.Ways.{maskSum}
 use Rattle.rules.specs.Price.{chargeLimit}
 use Rattle.rules.specs.Prize.{majorFloor}
 use Rattle.rules.specs.Cut.{majorsLimit}
@@ -24,7 +24,7 @@ pub record Place (left mask : ℕ) : Type 0 where
 
 -- what the walk carries to that place: the bytes of the groups taken so far, added
 pub record AddedUp (left mask total : ℕ) (figures : List ℕ) : Type 0 where
-  pub added : total ≡ taken mask (drop left figures)
+  pub added : total ≡ maskSum mask (drop left figures)
   pub small : total ≤ 255 * (8 - left)
 
 -- a prize whose product with all that there is to share fits

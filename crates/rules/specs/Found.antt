@@ -9,7 +9,7 @@ use lib.ListN.{length, drop, getD}
 use lib.Seq.{sets}
 use Rattle.rules.specs.Lists.{sum, keep}
 use Rattle.rules.specs.Kinds.{kindOf}
-use Rattle.rules.specs.Ways.{hits, taken}
+use Rattle.rules.specs.Ways.{hits, maskSum}
 use Rattle.rules.specs.Prize.{majorFloor, isMajor, prize}
 use Rattle.rules.specs.Settle.{prizesBy, fullBy}
 use Rattle.rules.specs.Passes.{waysFrom}
@@ -55,7 +55,7 @@ pub record GroupsOf (word : ℕ) (draw : Draw) (marks table : List ℕ) : Type 0
 
 -- what the walk carries to a place: the groups taken so far, added
 pub record Carries (left mask pair : ℕ) (table : List ℕ) : Type 0 where
-  pub added : pair ≡ taken mask (drop (suc left) table)
+  pub added : pair ≡ maskSum mask (drop (suc left) table)
   pub small : pair ≤ 2 ^ 20 * (8 - left)
 
 -- ---- what the calls of the walk are lent in one table, so that they pass on few parameters: the stake, the types byte, the number of the kind,
@@ -87,7 +87,7 @@ prizeIn kind stake pair = prize kind stake (sizeIn pair) (hitsIn pair)
 
 -- the ways that begin with the groups in a mask
 abbrev pub pairsFrom : ℕ → List ℕ → ℕ → ℕ → List ℕ
-pairsFrom types table left mask = map (λ m. taken m (drop 1 table)) (waysFrom types left mask)
+pairsFrom types table left mask = map (λ m. maskSum m (drop 1 table)) (waysFrom types left mask)
 
 -- no cut goes below the floor of major prizes, so that this much of a prize is paid in any case
 abbrev pub sureOf : ℕ → ℕ

@@ -8,7 +8,7 @@ use lib.Dec.{eqb}
 use lib.ListN.{length, getD, drop}
 use lib.Count.{ones}
 use Rattle.rules.specs.Kinds.{kindOf}
-use Rattle.rules.specs.Ways.{sizes, sizeWord, nominated, taken, waySizes}
+use Rattle.rules.specs.Ways.{sizes, sizeWord, nominated, maskSum, waySizes}
 use Rattle.rules.specs.Checks.{Operands, firstMet, operandRows, operandCode}
 use Rattle.rules.specs.declared.terms.Kind.{Kind}
 use Rattle.rules.specs.declared.survey.Survey.{Survey}
@@ -22,13 +22,13 @@ waysFrom types (suc left) mask = waysFrom types left (mask * 2) ++ waysFrom type
 -- Whether some number of groups, from so many taken to those with all that are left, has its bit in the types byte: bit k of the byte's
 -- double is that of k groups.
 unfoldable pub nominable : ℕ → ℕ → ℕ → Bool
-nominable types taken left = not (eqb (types * 2 / 2 ^ taken % 2 ^ (left + 1)) 0)
+nominable types count left = not (eqb (types * 2 / 2 ^ count % 2 ^ (left + 1)) 0)
 
 -- ---- a sale's one look at its ways
 
 -- the sizes of the ways that begin so, from the sizes of the groups
 abbrev pub sizesFrom : ℕ → List ℕ → ℕ → ℕ → List ℕ
-sizesFrom types sizes left mask = map (λ m. taken m sizes) (waysFrom types left mask)
+sizesFrom types sizes left mask = map (λ m. maskSum m sizes) (waysFrom types left mask)
 
 -- one way more, which selects so many numbers
 abbrev pub noted : Survey → ℕ → Survey

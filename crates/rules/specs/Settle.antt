@@ -8,7 +8,7 @@ use lib.Dec.{eqb}
 use lib.ListN.{length}
 use Rattle.rules.specs.Lists.{sum, keep}
 use Rattle.rules.specs.Kinds.{isJackpot, within}
-use Rattle.rules.specs.Ways.{sizes, hits, ways, taken, waySizes}
+use Rattle.rules.specs.Ways.{sizes, hits, ways, maskSum, waySizes}
 use Rattle.rules.specs.Prize.{prize, isMajor}
 use Rattle.rules.specs.Cut.{payout}
 use Rattle.rules.specs.Jackpots.{guaranteeOfSix, guaranteeOfEight, contribution, contributed, Winner, jackpotWon, jackpotShares, seedOf, reseeded, repaidOf, repaid}
@@ -25,11 +25,11 @@ pub record Entry : Type 0 where
 -- the prize of each way, before any cut, from the sizes and hits of the groups
 unfoldable pub prizesBy : Terms → List ℕ → List ℕ → List ℕ
 prizesBy t sizes hits =
-    map (λ m. prize (t .kind) (t .stake) (taken m sizes) (taken m hits)) (ways (t .groups) (t .types))
+    map (λ m. prize (t .kind) (t .stake) (maskSum m sizes) (maskSum m hits)) (ways (t .groups) (t .types))
 
 -- the ways that match every number they select
 unfoldable pub fullBy : Terms → List ℕ → List ℕ → ℕ
-fullBy t sizes hits = length (keep (λ m. eqb (taken m hits) (taken m sizes)) (ways (t .groups) (t .types)))
+fullBy t sizes hits = length (keep (λ m. eqb (maskSum m hits) (maskSum m sizes)) (ways (t .groups) (t .types)))
 
 abbrev pub wayPrizes : Draw → Entry → List ℕ
 wayPrizes draw e = prizesBy (e .terms) (sizes (e .marks)) (hits draw (e .marks))

@@ -46,10 +46,10 @@ unfoldable pub ways : ℕ → ℕ → List ℕ
 ways g types = keep (λ m. nominated types (ones m)) (below (2 ^ g))
 
 -- the figures of the groups that a way takes, added: its selection from the groups' sizes, its match from their hits
-unfoldable pub taken : ℕ → List ℕ → ℕ
-taken m [] = 0
-taken m (x ∷ xs) = m % 2 * x + taken (m / 2) xs
+unfoldable pub maskSum : ℕ → List ℕ → ℕ
+maskSum m [] = 0
+maskSum m (x ∷ xs) = m % 2 * x + maskSum (m / 2) xs
 
 -- the size of each way, from the sizes of the groups
 unfoldable pub waySizes : ℕ → ℕ → List ℕ → List ℕ
-waySizes g types sizes = map (λ m. taken m sizes) (ways g types)
+waySizes g types sizes = map (λ m. maskSum m sizes) (ways g types)

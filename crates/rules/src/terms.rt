@@ -55,6 +55,7 @@ impl Kind {
         }
     }
 
+    // Whether a ticket of this kind plays for a jackpot.
     pub fn is_jackpot(self) -> bool
         ensures { λ r. ⌜ r ≡ isJackpot self ⌝ }
     {
@@ -65,6 +66,7 @@ impl Kind {
         }
     }
 
+    // Whether a ticket of this kind plays for rule 18.2, which asks for two ways at the least.
     pub fn is_special_one(self) -> bool
         ensures { λ r. ⌜ r ≡ isSpecialOne self ⌝ }
     {

@@ -49,12 +49,12 @@ first-met-below (row ∷ rows) more numbered none =
 -- ---- the ticket
 
 -- a ticket's number that passed the table's first rows, and its place
-pub record Found (h : House) (words marks : List ℕ) (n p : ℕ) : Type 0 where
+pub record FoundTicket (h : House) (words marks : List ℕ) (n p : ℕ) : Type 0 where
   pub sure : Sure (view h words marks)
   pub passed : firstMet (lookupRows n (view h words marks)) ≡ 0
   pub placed : p ≡ placeOf n (view h words marks .live)
 
-module _ {h : House} {words marks : List ℕ} {n p : ℕ} (found : Found h words marks n p) where
+module _ {h : House} {words marks : List ℕ} {n p : ℕ} (found : FoundTicket h words marks n p) where
   pub found-few : h .live ≤ 200
   found-few = view-few h words marks (found .sure)
 

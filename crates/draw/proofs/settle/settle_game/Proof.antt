@@ -20,7 +20,7 @@ use Rattle.house.proofs.ReachedHouses.{Sure, reached-sure}
 use Rattle.house.proofs.ViewLaws.{carried-done, balls-count, live-count}
 use Rattle.draw.proofs.ClosingLaws.{spread-fills}
 use Rattle.draw.proofs.SharingLaws.{entered}
-use Rattle.draw.proofs.BallLaws.{last-act, each-live, paid-view, lastDraw, prizesLast, sixLast, prizes-count, with-six-count, parted, Fitting, fitting, prizes-total, prizes-fit, six-fit, awards-fit, whole-draw, matches-by, Found, found-by, settled-view}
+use Rattle.draw.proofs.BallLaws.{last-act, each-live, paid-view, lastDraw, prizesLast, sixLast, prizes-count, with-six-count, parted, Fitting, fitting, prizes-total, prizes-fit, six-fit, awards-fit, whole-draw, matches-by, GameFound, found-by, settled-view}
 use Rattle.draw.proofs.settle.settle_game.Statement.{statement}
 use Rattle.draw.proofs.settle.settle_game.Tie as tie
 
@@ -220,7 +220,7 @@ close-tickets-requires c κs =
     )
 
 found : (c : tie.After-settle-jackpot2)
-    → Found (model (begun c)) (begun c .args .number) (figures c .prizes) (figures c .stakes) (sixBefore c .settle-jackpot .result) (c .settle-jackpot2 .result)
+    → GameFound (model (begun c)) (begun c .args .number) (figures c .prizes) (figures c .stakes) (sixBefore c .settle-jackpot .result) (c .settle-jackpot2 .result)
 found c =
     let s = begun c in
     let told = figuredBefore (sixBefore c) .find-figures .ensures in

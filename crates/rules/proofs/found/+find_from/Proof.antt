@@ -11,7 +11,7 @@ use lib.Count.{ones}
 use borrow.Author.Needs.{needs}
 use borrow.Fn.Kinds.{In}
 use borrow.Fn.PlainCycle.{Measures, is, falls, and}
-use Rattle.rules.specs.Ways.{nominated, taken}
+use Rattle.rules.specs.Ways.{nominated, maskSum}
 use Rattle.rules.specs.Passes.{waysFrom}
 use Rattle.rules.specs.Found.{stakeIn, typesIn, kindIn, groupsIn, Carries, pairsFrom, wayOrNone, Room, JoinedWays}
 use Rattle.rules.proofs.WayLaws.{mask-lt, place-end, place-with, place-without}
@@ -32,12 +32,12 @@ abbrev μ : Measures 3 kinds.ps ℕ
 room-pairs : (types left m : ℕ) (table : List ℕ) {found : List ℕ} → Room (length (waysFrom types left m)) found
     → Room (length (pairsFrom types table left m)) found
 room-pairs types left m table {found} r =
-    subst (λ n. Room n found) (sym (length-map (waysFrom types left m) (λ k. taken k (drop 1 table)))) r
+    subst (λ n. Room n found) (sym (length-map (waysFrom types left m) (λ k. maskSum k (drop 1 table)))) r
 
 room-ways : (types left m : ℕ) (table : List ℕ) {found : List ℕ} → Room (length (pairsFrom types table left m)) found
     → Room (length (waysFrom types left m)) found
 room-ways types left m table {found} r =
-    subst (λ n. Room n found) (length-map (waysFrom types left m) (λ k. taken k (drop 1 table))) r
+    subst (λ n. Room n found) (length-map (waysFrom types left m) (λ k. maskSum k (drop 1 table))) r
 
 module _ (t : ℕ) where
   abbrev given : In 3 kinds.ps
@@ -53,7 +53,7 @@ module _ (t : ℕ) where
       ≡ wayOrNone (nominated (typesIn (c .before .args .table .now)) (ones (c .before .args .mask))) (c .before .args .pair)
   own c =
       let a = c .before .args in
-      map-end (λ k. taken k (drop 1 (groupsIn (a .table .now)))) (typesIn (a .table .now)) (a .mask) (c .if1 .taken)
+      map-end (λ k. maskSum k (drop 1 (groupsIn (a .table .now)))) (typesIn (a .table .now)) (a .mask) (c .if1 .taken)
       ∙ ap (wayOrNone (nominated (typesIn (a .table .now)) (ones (a .mask)))) (sym (carries-end (c .if1 .taken) (c .before .pre .1 .2)))
 
   -- the ways that leave the next group, and then those that take it
@@ -63,7 +63,7 @@ module _ (t : ℕ) where
       ++ pairsFrom (typesIn (c .before .args .table .now)) (groupsIn (c .before .args .table .now)) (c .before .args .left - 1) (c .before .args .mask * 2 + 1)
   parts c =
       let a = c .before .args in
-      map-step (λ k. taken k (drop 1 (groupsIn (a .table .now)))) (typesIn (a .table .now)) (a .mask) (c .if1 .left)
+      map-step (λ k. maskSum k (drop 1 (groupsIn (a .table .now)))) (typesIn (a .table .now)) (a .mask) (c .if1 .left)
 
   both-room : (c : lts.Else1 called given find-from.Post)
       → Room (length (pairsFrom (typesIn (c .before .args .table .now)) (groupsIn (c .before .args .table .now)) (c .before .args .left - 1) (c .before .args .mask * 2)
@@ -98,7 +98,7 @@ module _ (t : ℕ) where
   returns-2 : lts.Need-returns-2 called given find-from.Post
   returns-2 c =
       let a = c .before .before .before .before .args in
-      subst (λ (l : List ℕ). JoinedWays (kindIn (a .table .now)) (stakeIn (a .table .now)) (map (λ k. taken k (drop 1 (groupsIn (a .table .now)))) l) (a .found .now) (a .majors .now) (a .found .now) (a .majors .now))
+      subst (λ (l : List ℕ). JoinedWays (kindIn (a .table .now)) (stakeIn (a .table .now)) (map (λ k. maskSum k (drop 1 (groupsIn (a .table .now)))) l) (a .found .now) (a .majors .now) (a .found .now) (a .majors .now))
       (sym (c .before .ends-here .ensures (c .if2 .taken)))
       (no-ways (kindIn (a .table .now)) (stakeIn (a .table .now)) (a .found .now) (a .majors .now))
 

@@ -10,7 +10,7 @@ use lib.ListN.{getD}
 use lib.Count.{ones}
 use borrow.Fn.Kinds.{In}
 use borrow.Fn.PlainCycle.{Measures, is, falls, and}
-use Rattle.rules.specs.Ways.{nominated, taken}
+use Rattle.rules.specs.Ways.{nominated, maskSum}
 use Rattle.rules.specs.Passes.{sizesFrom, surveyFrom, surveyIn, Unfilled}
 use Rattle.rules.proofs.WayLaws.{mask-lt, place-end, place-with, place-without, carried-with, carried-without, carried-all}
 use Rattle.rules.proofs.WalkLaws.{map-end, map-step}
@@ -39,7 +39,7 @@ module _ (t : ℕ) where
       ≡ cond (nominated (c .before .args .types) (ones (c .before .args .mask))) (c .before .args .size ∷ []) []
   own c =
       let a = c .before .args in
-      map-end (λ k. taken k (a .sizes .now)) (a .types) (a .mask) (c .if1 .taken)
+      map-end (λ k. maskSum k (a .sizes .now)) (a .types) (a .mask) (c .if1 .taken)
       ∙ ap (λ n. cond (nominated (a .types) (ones (a .mask))) (n ∷ []) []) (sym (carried-all (c .if1 .taken) (c .before .pre .1 .2)))
 
   -- where some group is left
@@ -60,7 +60,7 @@ module _ (t : ℕ) where
       ++ sizesFrom (begun c .args .types) (begun c .args .sizes .now) (begun c .args .left - 1) (begun c .args .mask * 2 + 1)
   parts c =
       let a = begun c .args in
-      map-step (λ k. taken k (a .sizes .now)) (a .types) (a .mask) (some c)
+      map-step (λ k. maskSum k (a .sizes .now)) (a .types) (a .mask) (some c)
 
   room : (c : lts.Else2 called given survey-from.Post)
       → Unfilled
@@ -87,7 +87,7 @@ module _ (t : ℕ) where
   unfolding surveyFrom
   returns-2 c =
       let a = c .before .before .before .args in
-      sym (ap (λ l. surveyFrom (surveyIn (a .table .now)) (map (λ k. taken k (a .sizes .now)) l)) (c .before .ends-here .ensures (c .if2 .taken)))
+      sym (ap (λ l. surveyFrom (surveyIn (a .table .now)) (map (λ k. maskSum k (a .sizes .now)) l)) (c .before .ends-here .ensures (c .if2 .taken)))
 
   sub-after : lts.Need-sub-after called given survey-from.Post
   sub-after c = pos-of-ne-zero (some c)

@@ -23,7 +23,7 @@ use Rattle.house.proofs.SheetFigures.{paid-games-within}
 use Rattle.house.proofs.Bounded.{stake-within, ways-within, span-paid-within}
 use Rattle.house.proofs.ReachedHouses.{reached-sure}
 use Rattle.house.proofs.ViewLaws.{carried-refused, carried-done, view-drawing, view-by}
-use Rattle.tickets.proofs.FoundTickets.{Found, first-met-above, found-few, found-rest, found-within, found-ticket, found-holds, found-changed}
+use Rattle.tickets.proofs.FoundTickets.{FoundTicket, first-met-above, found-few, found-rest, found-within, found-ticket, found-holds, found-changed}
 use Rattle.tickets.proofs.cancel.cancel_ticket.Statement.{statement}
 use Rattle.tickets.proofs.cancel.cancel_ticket.Tie as tie
 
@@ -71,7 +71,7 @@ refundIn h words marks p = paidStakes (stopIn h words marks p) (ticketIn words m
 abbrev cancelledIn : House → List ℕ → List ℕ → ℕ → Ticket
 cancelledIn h words marks p = finishedOn (h .day) (h .game) (withStop (ticketIn words marks p) (stopIn h words marks p))
 
-module _ {h : House} {words marks : List ℕ} {n p : ℕ} (found : Found h words marks n p) where
+module _ {h : House} {words marks : List ℕ} {n p : ℕ} (found : FoundTicket h words marks n p) where
   kept : Kept (h .game) (ticketIn words marks p)
   unfolding view
   kept = found-holds found (Kept (h .game)) (found .sure .kept)
@@ -136,7 +136,7 @@ by-place f c = f (start c .args .house) (start c .args .rows .now) (start c .arg
 abbrev table-code : tie.Else1 → ℕ
 table-code c = codeOf (view (start c .args .house) (start c .args .rows .now) (start c .args .marks .now)) (cancel (start c .args .ticket))
 
-found-at : (c : tie.Else1) → Found (start c .args .house) (start c .args .rows .now) (start c .args .marks .now) (start c .args .ticket) (place c)
+found-at : (c : tie.Else1) → FoundTicket (start c .args .house) (start c .args .rows .now) (start c .args .marks .now) (start c .args .ticket) (place c)
 found-at c =
     let answer = c .before .before .look-up .ensures in
     record {

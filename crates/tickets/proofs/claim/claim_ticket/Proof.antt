@@ -18,7 +18,7 @@ use Rattle.house.proofs.Ledger.{withLive}
 use Rattle.house.proofs.Refusals.{claim-accepted}
 use Rattle.house.proofs.ReachedHouses.{reached-sure}
 use Rattle.house.proofs.ViewLaws.{carried-refused, carried-done, view-by}
-use Rattle.tickets.proofs.FoundTickets.{Found, first-met-above, found-few, found-rest, found-within, found-ticket, found-holds, found-changed}
+use Rattle.tickets.proofs.FoundTickets.{FoundTicket, first-met-above, found-few, found-rest, found-within, found-ticket, found-holds, found-changed}
 use Rattle.tickets.proofs.claim.claim_ticket.Statement.{statement}
 use Rattle.tickets.proofs.claim.claim_ticket.Tie as tie
 
@@ -44,7 +44,7 @@ paidOut h due =
       counters = record { taken = h .counters .taken; seeds = h .counters .seeds; paid = h .counters .paid + due; refunded = h .counters .refunded; unclaimed = h .counters .unclaimed; gained = h .counters .gained; lost = h .counters .lost };
     }
 
-module _ {h : House} {words marks : List ℕ} {n p : ℕ} (found : Found h words marks n p) where
+module _ {h : House} {words marks : List ℕ} {n p : ℕ} (found : FoundTicket h words marks n p) where
   rest-code : codeOf (view h words marks) (claim n) ≡ firstMet (claimRows (h .game) (ticketIn words marks p))
   unfolding codeOf rowsOf view
   rest-code =
@@ -89,7 +89,7 @@ ticket c = ticketIn (start c .args .rows .now) (start c .args .marks .now) (plac
 abbrev table-code : tie.Else1 → ℕ
 table-code c = codeOf (view (start c .args .house) (start c .args .rows .now) (start c .args .marks .now)) (claim (start c .args .ticket))
 
-found-at : (c : tie.Else1) → Found (start c .args .house) (start c .args .rows .now) (start c .args .marks .now) (start c .args .ticket) (place c)
+found-at : (c : tie.Else1) → FoundTicket (start c .args .house) (start c .args .rows .now) (start c .args .marks .now) (start c .args .ticket) (place c)
 found-at c =
     let answer = c .before .before .look-up .ensures in
     record {
