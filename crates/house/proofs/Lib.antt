@@ -13,7 +13,7 @@ pub mod LogLaws
 pub mod Numbered
 pub mod AwardLaws
 pub mod Won
-pub mod Seats
+pub mod Players
 pub mod SomeWay
 pub mod Bounded
 pub mod OneCommand

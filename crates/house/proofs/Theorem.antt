@@ -11,7 +11,7 @@ use Rattle.house.specs.Model.{Model, fresh}
 use Rattle.house.specs.Commands.{Command, open′, sell, cancel, ball, claim, expire, transfer, Answer, codeOf, act, reply, step, stillLive, runningIn}
 use Rattle.house.specs.Till.{tillOf}
 use Rattle.house.specs.Sheet.{Sheet, playing, feed, moved, sheetNumber, sheetCents}
-use Rattle.house.specs.Claims.{Log, sheetOf, Seated, wonBy}
+use Rattle.house.specs.Claims.{Log, sheetOf, PlaysExactly, wonBy}
 use Rattle.house.specs.Balance.{State, next, runFrom, run, Balanced, TillBalances, Reached}
 use Rattle.house.proofs.Ledger.{houseOf, ledgerAfter, sheetFor, Orderly}
 use Rattle.house.proofs.LiveTickets.{live-after, house-after}
@@ -21,7 +21,7 @@ use Rattle.house.proofs.SheetSteps.{sheet-after, balanced-after}
 use Rattle.house.proofs.SheetAnswers.{answers-agree, balanced-fresh}
 use Rattle.house.proofs.LogLaws.{logged}
 use Rattle.house.proofs.Won.{Told, told-fresh, told-refused, told-after, claimed-once, claim-pays}
-use Rattle.house.proofs.Seats.{Unsold, unsold-fresh, unsold-refused, unsold-after, house-seated, sheet-seated}
+use Rattle.house.proofs.Players.{Unsold, unsold-fresh, unsold-refused, unsold-after, house-players, sheet-players}
 use Rattle.house.proofs.Bounded.{Bounded, bounded-fresh, bounded-after}
 use Rattle.house.proofs.OneCommand.{refused-unchanged, accepted-done, accepted-code}
 
@@ -139,11 +139,11 @@ claim-in h log n b accepted =
     ∙ claim-pays (b .ledger) log n (b .told) (accepted-there h log (claim n) b (code-there h log (claim n) b accepted))
 
 -- who plays in the current game of a booked house
-seated-in : (h : Model) (log : Log) → Booked h log
-    → Seated log (map (λ t. t .number) (runningIn h)) × Seated log (map (λ l. l .number) (playing (sheetOf log)))
-seated-in h log b = (
-  subst⁻¹ (λ m. Seated log (map (λ t. t .number) (runningIn m))) (b .house) (house-seated (b .ledger) log (b .orderly) (b .told) (b .unsold)),
-  sheet-seated (b .ledger) log (b .orderly) (b .told) (b .unsold),
+players-in : (h : Model) (log : Log) → Booked h log
+    → PlaysExactly log (map (λ t. t .number) (runningIn h)) × PlaysExactly log (map (λ l. l .number) (playing (sheetOf log)))
+players-in h log b = (
+  subst⁻¹ (λ m. PlaysExactly log (map (λ t. t .number) (runningIn m))) (b .house) (house-players (b .ledger) log (b .orderly) (b .told) (b .unsold)),
+  sheet-players (b .ledger) log (b .orderly) (b .told) (b .unsold),
 )
 
 till-in : (h : Model) (log : Log) (b : Booked h log) → tillOf h ≡ tillOf (b .ledger)
@@ -158,7 +158,7 @@ till-balances cs =
       balance = subst Balanced (sym same) (b .balanced);
       figures = same ∙ sym (ap (λ (s : Sheet). s .figures) (b .told .sheet));
       answers = λ before after c split accepted. answers-sheet (run before .house) (run before .log) c (booked before) accepted;
-      plays = λ before after n split accepted last. seated-in (run before .house) (run before .log) (booked before);
+      plays = λ before after n split accepted last. players-in (run before .house) (run before .log) (booked before);
       once = claimed-once (b .ledger) (run cs .log) (b .told);
       pays = λ before after n split accepted. claim-in (run before .house) (run before .log) n (booked before) accepted;
     }

@@ -7,7 +7,7 @@ use Rattle.house.specs.Model.{Model, fresh}
 use Rattle.house.specs.Commands.{Command, ball, claim, Answer, runningIn, step}
 use Rattle.house.specs.Till.{Figures, tillOf}
 use Rattle.house.specs.Sheet.{playing, sheetNumber, sheetCents}
-use Rattle.house.specs.Claims.{Log, sheetOf, accepted, isClaimOf, Seated, wonBy}
+use Rattle.house.specs.Claims.{Log, sheetOf, accepted, isClaimOf, PlaysExactly, wonBy}
 
 -- a house after some commands, with the log of them
 pub record State : Type 0 where
@@ -58,8 +58,8 @@ pub record TillBalances (cs : List Command) : Type 0 where
       → cs ≡ before ++ ball b ∷ after
       → answerAfter before (ball b) .code ≡ 0
       → answerAfter before (ball b) .number ≡ 20
-      → Seated (run before .log) (map (λ t. t .number) (runningIn (run before .house)))
-      × Seated (run before .log) (map (λ l. l .number) (playing (sheetOf (run before .log))))
+      → PlaysExactly (run before .log) (map (λ t. t .number) (runningIn (run before .house)))
+      × PlaysExactly (run before .log) (map (λ l. l .number) (playing (sheetOf (run before .log))))
   -- "Each ticket number has at most one accepted claim."
   pub once : (n : ℕ) → accepted (isClaimOf n) (run cs .log) ≤ 1
   -- "That claim pays exactly the prizes, as cut, and the jackpot shares of the drawn games the ticket was sold for and had not cancelled."

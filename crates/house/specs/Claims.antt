@@ -113,8 +113,8 @@ awardIn n g (e ∷ log) = cond (eqb (e .code) 0) (awardAfter n g log (awardIn n 
 abbrev pub gamesOf : Span → List ℕ
 gamesOf s = gamesFrom (s .first) (s .stop - s .first)
 
--- who sits in the current game: a number plays just where its span has the game, and no number plays twice
-pub record Seated (log : Log) (players : List ℕ) : Type 0 where
+-- who plays in the current game: a number plays just where its span has the game, and no number plays twice
+pub record PlaysExactly (log : Log) (players : List ℕ) : Type 0 where
   pub exactly : (n : ℕ) → member n players ≡ member (gameOf log) (gamesOf (spanOf n log))
   pub once : Different players
 

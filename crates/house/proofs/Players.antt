@@ -1,4 +1,4 @@
--- Who sits in the current game: the tickets that run in it, in the house and on the sheet, are those whose span in the log has it. The ledger's
+-- Who plays in the current game: the tickets that run in it, in the house and on the sheet, are those whose span in the log has it. The ledger's
 -- tickets are numbered from 1 in a row and each has its span, and a number that was never sold has no span.
 use Prim.Native.Nat.{ℕ, zero, suc, _+_, _-_, _≤_, _<_}
 use native.Mathlib.Omega.{arith}
@@ -16,7 +16,7 @@ use Rattle.house.specs.Model.{Model}
 use Rattle.house.specs.Commands.{Command, open′, sell, cancel, ball, claim, expire, transfer, codeOf, runningIn}
 use Rattle.house.specs.Sheet.{Sheet, gamesFrom, playing}
 use Rattle.house.specs.Draws.{Different}
-use Rattle.house.specs.Claims.{Log, sheetOf, accepted, isSell, gameOf, Span, spanOf, spanAfter, gamesOf, Seated}
+use Rattle.house.specs.Claims.{Log, sheetOf, accepted, isSell, gameOf, Span, spanOf, spanAfter, gamesOf, PlaysExactly}
 use Rattle.house.proofs.Ledger.{Orderly, houseOf, lineOf}
 use Rattle.house.proofs.MoneyLaws.{all-from, keep-map, keep-same}
 use Rattle.house.proofs.Refusals.{cancel-accepted}
@@ -172,8 +172,8 @@ module _ (m : Model) (log : Log) (orderly : Orderly m) (told : Told m log) (unso
       ∙ ap (λ b. leb 0 (gameOf log) && b) (le-ltb (gameOf log) 0 (omega arith))
       ∙ and-false (leb 0 (gameOf log))
 
-  players-seated : Seated log players
-  players-seated =
+  players-exact : PlaysExactly log players
+  players-exact =
       record {
         exactly = λ n. member-kept inGame n (gamesFrom 1 (length (m .live))) ∙ go n (member n (gamesFrom 1 (length (m .live)))) refl;
         once = different-kept inGame (gamesFrom 1 (length (m .live))) (different-games 1 (length (m .live)));
@@ -189,15 +189,15 @@ module _ (m : Model) (log : Log) (orderly : Orderly m) (told : Told m log) (unso
       go n true e = refl
       go n false e = sym (unsold-idle n (never-sold n (sym (games-have n 1 (length (m .live))) ∙ e)))
 
-  pub house-seated : Seated log (map (λ t. t .number) (runningIn (houseOf m)))
-  house-seated =
-      subst⁻¹ (Seated log) (ap (map (λ t. t .number)) (running-live (m .game) (m .live)) ∙ running-players) players-seated
+  pub house-players : PlaysExactly log (map (λ t. t .number) (runningIn (houseOf m)))
+  house-players =
+      subst⁻¹ (PlaysExactly log) (ap (map (λ t. t .number)) (running-live (m .game) (m .live)) ∙ running-players) players-exact
 
-  pub sheet-seated : Seated log (map (λ l. l .number) (playing (sheetOf log)))
-  sheet-seated =
-      subst⁻¹ (Seated log)
+  pub sheet-players : PlaysExactly log (map (λ l. l .number) (playing (sheetOf log)))
+  sheet-players =
+      subst⁻¹ (PlaysExactly log)
       (ap (λ (s : Sheet). map (λ l. l .number) (playing s)) (told .sheet)
       ∙ ap (map (λ l. l .number)) (playing-lines (m .game) (m .live))
       ∙ map-map (λ l. l .number) (lineOf (m .game)) (keep (runsIn (m .game)) (m .live))
       ∙ running-players)
-      players-seated
+      players-exact
