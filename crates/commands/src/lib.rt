@@ -1,6 +1,4 @@
-// Open and Transfer, one part for all seven commands, the till, the pools and the live list.
+// Open and Transfer, and one part for all seven commands.
 pub mod command;
-pub mod live_list;
 pub mod open;
-pub mod till;
 pub mod transfer;

@@ -1,90 +1,32 @@
--- Laws of a settled game's last step: tables by place, a table's sum, a ticket that closes or moves down, and what the places of a table that
--- hold the spread awards make of the live tickets.
-use Prim.Native.Nat.{ℕ, zero, suc, _+_, _-_, _≤_, _<_, max}
-use mathlib.Core.Path.{_≡_, refl, sym, ap, ap₂, _∙_, subst}
+-- Laws of the end of a game: a ticket that closes or moves down, and what the places of a table that hold the spread awards make of the live
+-- tickets.
+use Prim.Native.Nat.{ℕ, _+_, _-_, _≤_, _<_, max}
+use mathlib.Core.Path.{_≡_, refl, sym, ap, _∙_}
 use mathlib.Core.Bool.{Bool, true, false, cond, not, _&&_}
 use mathlib.Core.List.{List, [], _∷_, _++_, map, zipWith, append-nil, map-map}
 use native.Mathlib.Nat.{add-zero}
-use native.Mathlib.Numerals.{add-one}
 use native.Mathlib.Omega.{arith}
 use lib.Dec.{eqb}
-use lib.ListN.{length, getD, set, take, drop, length-take, take-append-drop}
-use lib.Seq.{ext-getD, getD-set-same, getD-take, getD-drop, take-take, take-suc, drop-set-lt, drop-drop, length-take-le}
+use lib.ListN.{length, getD, set, take, drop, length-take}
+use lib.Seq.{getD-set-same, getD-drop, drop-set-lt, drop-drop}
 use borrow.Author.Tests.{eq-eqb, ne-eqb}
-use Rattle.rules.specs.Lists.{sum, below, keep}
-use Rattle.house.specs.Tickets.{Ticket, runsIn, gamesLeft, isFinished, isLive, withDue, withFinishedDay}
+use Rattle.sale.specs.Lists.{below, keep}
+use Rattle.house.specs.Tickets.{Ticket, gamesLeft, isFinished, isLive, withDue, withFinishedDay}
 use Rattle.house.specs.Commands.{blankTicket, stillLive, finishedOn, awarded}
 use Rattle.house.specs.View.{ticketIn, ticketsOf}
-use Rattle.draw.specs.Settling.{spread}
+use Rattle.settlement.specs.Settling.{spread}
 use Rattle.draw.specs.Closing.{paidTicket}
-use Rattle.house.proofs.ListLaws.{keep-append, map-append}
-use Rattle.house.proofs.MoneyLaws.{sum-append}
-use Rattle.house.proofs.RowLists.{length-table, getD-table}
+use Rattle.house.proofs.ListLaws.{keep-append}
+use Rattle.house.proofs.RowLists.{length-table}
 use Rattle.house.proofs.RowLaws.{tickets-at, tickets-length, take-sold}
-use Rattle.draw.proofs.SpreadLaws.{length-spread, sum-spread, awarded-spread}
-
--- ---- tables by place
-
-module _ {A : Type 0} where
-  pub table-more : (f : ℕ → A) (n : ℕ) → map f (below (n + 1)) ≡ map f (below n) ++ (f n ∷ [])
-  unfolding below
-  table-more f n = ap (λ k. map f (below k)) (add-one n) ∙ map-append f (below n) (n ∷ [])
-
-  pub tables-alike : (f g : ℕ → A) (n : ℕ) → ((i : ℕ) → i < n → f i ≡ g i) → map f (below n) ≡ map g (below n)
-  unfolding below
-  tables-alike f g zero same = refl
-  tables-alike f g (suc n) same =
-      map-append f (below n) (n ∷ [])
-      ∙ ap₂ (λ xs x. xs ++ (x ∷ [])) (tables-alike f g n (λ i b. same i (omega arith))) (same n (omega arith))
-      ∙ sym (map-append g (below n) (n ∷ []))
-
-pub table-of : (l : List ℕ) (n : ℕ) → n ≤ length l → map (λ i. getD l i 0) (below n) ≡ take n l
-table-of l n h =
-    let long : length (map (λ i. getD l i 0) (below n)) ≡ n = length-table (λ i. getD l i 0) n in
-    ext-getD 0 (map (λ i. getD l i 0) (below n)) (take n l)
-    (omega (arith, length-take-le n l h))
-    (λ i b.
-    let small : i < n = omega arith in
-    getD-table (λ i. getD l i 0) n i 0 small ∙ sym (getD-take n l i 0 small))
+use Rattle.settlement.proofs.SpreadLaws.{length-spread, awarded-spread}
+use Rattle.settlement.proofs.TablePlaces.{table-more, table-of}
 
 zip-maps : {A B C D : Type 0} (f : B → C → D) (g : A → B) (h : A → C) (xs : List A)
     → zipWith f (map g xs) (map h xs) ≡ map (λ x. f (g x) (h x)) xs
 unfolding zipWith
 zip-maps f g h [] = refl
 zip-maps f g h (x ∷ xs) = ap (λ ys. f (g x) (h x) ∷ ys) (zip-maps f g h xs)
-
--- ---- sums of a table's first figures
-
-pub place-within : (l : List ℕ) (i : ℕ) → getD l i 0 ≤ sum l
-unfolding sum
-place-within [] i = omega arith
-place-within (x ∷ xs) zero = omega arith
-place-within (x ∷ xs) (suc i) = omega (arith, place-within xs i)
-
-part-within : (i : ℕ) (l : List ℕ) → sum (take i l) ≤ sum l
-part-within i l = omega (arith, ap sum (take-append-drop i l), sum-append (take i l) (drop i l))
-
-pub sum-take-more : (l : List ℕ) (i : ℕ) → i < length l → sum (take (i + 1) l) ≡ sum (take i l) + getD l i 0
-unfolding sum
-sum-take-more l i h =
-    ap (λ k. sum (take k l)) (add-one i) ∙ ap sum (take-suc l i 0 h) ∙ sum-append (take i l) (getD l i 0 ∷ [])
-    ∙ ap (λ n. sum (take i l) + n) (add-zero (getD l i 0))
-
-pub sum-take-within : (l : List ℕ) (i n : ℕ) → i ≤ n → sum (take i l) ≤ sum (take n l)
-sum-take-within l i n h = subst (λ xs. sum xs ≤ sum (take n l)) (take-take i n l h) (part-within i (take n l))
-
--- a table whose first places hold spread figures
-module _ (game : ℕ) (table figures : List ℕ) (ts : List Ticket) (held : take (length ts) table ≡ spread game figures ts) where
-  pub spread-fills : length ts ≤ length table
-  spread-fills = omega (arith, length-take (length ts) table, ap length held, length-spread game figures ts)
-
-  module _ (count : length figures ≡ length (keep (runsIn game) ts)) where
-    pub spread-total : sum (take (length ts) table) ≡ sum figures
-    spread-total = ap sum held ∙ sum-spread game figures ts count
-
-    pub spread-within : (i : ℕ) → i < length ts → getD table i 0 ≤ sum figures
-    spread-within i b =
-        omega (arith, getD-take (length ts) table i 0 b, place-within (take (length ts) table) i, spread-total)
 
 -- ---- a ticket after the game
 

@@ -1,25 +1,59 @@
--- What the last steps of a settled game's code give each other: a ticket after the game, and the house once its tickets are closed.
-use Prim.Native.Nat.{ℕ, _+_}
+-- What the last steps of a game's code give each other: a ticket after the game, the house once it has taken in a settled game, and what the steps
+-- ask of their callers.
+use Prim.Native.Nat.{ℕ, _+_, _*_, _≤_, _<_, _^_}
+use mathlib.Core.Path.{_≡_}
+use mathlib.Core.List.{List}
+use lib.ListN.{length, getD}
+use Rattle.prizes.specs.Hits.{drawOf}
+use Rattle.prizes.specs.declared.draw.Draw.{Draw}
 use Rattle.house.specs.Tickets.{Ticket, withDue}
-use Rattle.house.specs.Commands.{finishedOn}
+use Rattle.house.specs.Model.{Model}
+use Rattle.house.specs.Commands.{ball, codeOf, ballsWith, finishedOn}
+use Rattle.house.specs.Balance.{Reached}
+use Rattle.house.specs.View.{rowOf}
 use Rattle.house.specs.declared.state.House.{House}
-use Rattle.draw.specs.declared.shares.Part.{Part}
+use Rattle.house.specs.declared.state.Counters.{Counters}
+use Rattle.settlement.specs.declared.settle.Settlement.{Settlement}
 
 -- a ticket with what it is paid, and with the day as its finishing day where the given game is the current one and none of its games is left
 abbrev pub paidTicket : ℕ → ℕ → ℕ → Ticket → Ticket
 paidTicket day game cents t = finishedOn day game (withDue t (t .due + cents))
 
--- the house with so many live tickets, from the prizes and the paid stakes of the game and the two jackpots' parts of it
-abbrev pub houseAfterGame : House → ℕ → ℕ → ℕ → Part → Part → House
-houseAfterGame h live prizes stakes six eight =
+-- the house with the pools and the counters of a settled game
+abbrev pub houseSettled : House → Settlement → House
+houseSettled h s =
     record {
       day = h .day;
-      game = h .game + 1;
+      game = h .game;
       balls = h .balls;
-      drawn = 0;
+      drawn = h .drawn;
       issued = h .issued;
-      live = live;
-      six = six .after;
-      eight = eight .after;
-      counters = record { taken = h .counters .taken; seeds = h .counters .seeds + (six .seed + eight .seed); paid = h .counters .paid; refunded = h .counters .refunded; unclaimed = h .counters .unclaimed; gained = h .counters .gained + stakes + (six .repaid + eight .repaid); lost = h .counters .lost + (six .contributions + eight .contributions) + prizes };
+      live = h .live;
+      six = s .six .after;
+      eight = s .eight .after;
+      counters = record { taken = h .counters .taken; seeds = h .counters .seeds + (s .six .seed + s .eight .seed); paid = h .counters .paid; refunded = h .counters .refunded; unclaimed = h .counters .unclaimed; gained = h .counters .gained + s .stakes + (s .six .repaid + s .eight .repaid); lost = h .counters .lost + (s .six .contributions + s .eight .contributions) + s .prizes };
     }
+
+-- counters that a settled game leaves within 64 bits
+pub record RoomyCounters (c : Counters) : Type 0 where
+  pub seeds : c .seeds < 2 ^ 62
+  pub gained : c .gained < 2 ^ 62
+  pub lost : c .lost < 2 ^ 62
+
+-- a house whose game can end: room for the next game's number, and in each live ticket's due for what a table awards it
+pub record Endable (h : House) (words awards : List ℕ) : Type 0 where
+  pub few : h .live ≤ 200
+  pub game : h .game < 2 ^ 62
+  pub room : (i : ℕ) → i < h .live → rowOf words (i * 16) .due + getD awards i 0 < 2 ^ 64
+
+-- the draw that an accepted ball completes, its game's twentieth
+pub record Draws (m : Model) (number : ℕ) (draw : Draw) : Type 0 where
+  pub accepted : codeOf m (ball number) ≡ 0
+  pub last : length (m .balls) ≡ 19
+  pub draw′ : draw ≡ drawOf (ballsWith number m)
+
+-- the same of a reached house, whichever the ball
+pub record LastDraw (m : Model) (draw : Draw) : Type 0 where
+  pub reached : Reached m
+  pub number : ℕ
+  pub drawn : Draws m number draw

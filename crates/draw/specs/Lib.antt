@@ -1,4 +1,1 @@
-pub mod Settling
-pub mod Passing
-pub mod Sharing
 pub mod Closing

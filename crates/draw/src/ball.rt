@@ -4,11 +4,12 @@ use house::answer::Outcome;
 use house::answer::accepted;
 use house::answer::refused;
 use house::state::House;
+use prizes::draw::Draw;
 ghost use mathlib.Core.Path.{_≡_};
 ghost use mathlib.Core.List.{List, map};
 ghost use Prim.Native.Nat.{ℕ, _+_, _≤_, _<_};
 ghost use lib.ListN.{length, getD};
-ghost use Rattle.rules.specs.Lists.{below, member};
+ghost use Rattle.sale.specs.Lists.{below, member};
 ghost use Rattle.house.specs.Commands.{ball, codeOf, ballsWith};
 ghost use Rattle.house.specs.Balance.{Reached};
 ghost use Rattle.house.specs.View.{view};
@@ -56,7 +57,7 @@ fn ball_code(house: House, number: u8) -> u8
 }
 
 // The balls in, and one number more.
-pub(crate) fn balls_with(house: House, number: u8) -> [u8; 20]
+fn balls_with(house: House, number: u8) -> [u8; 20]
     requires { ⌜ house .drawn < 20 ⌝ }
     ensures count { λ r. ⌜ length r ≡ 20 ⌝ }
     ensures balls { λ r. ⌜ ((words marks : List ℕ) → map (λ i. getD r i 0) (below (house .drawn + 1)) ≡ ballsWith number (view house words marks)) ⌝ }
@@ -98,7 +99,7 @@ pub fn enter_ball(
         if drawn < 19 {
             outcome = add_ball(house, number);
         } else {
-            outcome = settle_game(house, rows, marks, number);
+            outcome = settle_game(house, rows, marks, Draw::of(balls_with(house, number)));
         }
     }
     outcome

@@ -1,6 +1,4 @@
 // The draw: balls, and the settlement of a game over the live tickets.
 pub mod ball;
-pub mod figures;
-pub mod prizes;
-pub mod settle;
-pub mod shares;
+mod game_end;
+mod settle;

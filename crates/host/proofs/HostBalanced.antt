@@ -11,7 +11,7 @@ use Rattle.house.specs.Balance.{run, Reached}
 use Rattle.house.specs.View.{view}
 use Rattle.house.specs.declared.state.House.{House}
 use Rattle.house.proofs.Theorem.{till-balances}
-use Rattle.commands.specs.Shown.{shownTill}
+use Rattle.queries.specs.Shown.{shownTill}
 use Rattle.roll.specs.Balance.{Entry, entriesTo, entriesFrom}
 use Rattle.roll.specs.Orders.{readingOf, Reported}
 use Rattle.roll.specs.declared.reader.Report.{Report}

@@ -11,8 +11,8 @@ use Rattle.house.specs.Claims.{sheetOf}
 use Rattle.house.specs.Balance.{run, Reached, TillBalances}
 use Rattle.house.specs.View.{view}
 use Rattle.house.specs.declared.state.House.{House}
-use Rattle.commands.specs.Shown.{shownTill}
-use Rattle.commands.specs.declared.till.Till.{Till}
+use Rattle.queries.specs.Shown.{shownTill}
+use Rattle.queries.specs.declared.till.Till.{Till}
 use Rattle.roll.specs.Balance.{Entry, entriesTo, entriesFrom}
 use Rattle.roll.specs.Orders.{readingOf, Reported}
 use Rattle.roll.specs.declared.reader.Report.{Report}

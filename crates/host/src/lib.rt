@@ -1,11 +1,11 @@
 // The house for hosts in Rust or C: plain numbers, structs, arrays and bytes. The host keeps the house, the rows and the marks from call to call, as one call left them, and starts from a fresh house.
-use commands::live_list::Listed;
-use commands::live_list::live_list;
-use commands::till::Pools;
-use commands::till::Till;
-use commands::till::pools_of;
-use commands::till::till_of;
 use house::state::House;
+use queries::live_list::Listed;
+use queries::live_list::live_list;
+use queries::till::Pools;
+use queries::till::Till;
+use queries::till::pools_of;
+use queries::till::till_of;
 use roll::reader::Report;
 use roll::reader::read_roll;
 ghost use mathlib.Core.Path.{_≡_};
@@ -16,8 +16,8 @@ ghost use Rattle.house.specs.Model.{fresh};
 ghost use Rattle.house.specs.Parts.{ComesWith};
 ghost use Rattle.house.specs.Till.{tillOf};
 ghost use Rattle.house.specs.View.{view};
-ghost use Rattle.commands.specs.Listing.{Listing};
-ghost use Rattle.commands.specs.Shown.{shownTill, poolsOf};
+ghost use Rattle.queries.specs.Listing.{Listing};
+ghost use Rattle.queries.specs.Shown.{shownTill, poolsOf};
 ghost use Rattle.roll.specs.Orders.{Reported};
 
 // A house in which nothing has happened, whatever the rows and the marks hold.

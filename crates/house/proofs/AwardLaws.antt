@@ -7,7 +7,7 @@ use mathlib.Core.Bool.{Bool, true, false, cond}
 use mathlib.Core.List.{List, [], _∷_, map}
 use lib.ListN.{length}
 use borrow.Author.Tests.{eq-eqb, ne-eqb}
-use Rattle.rules.specs.Lists.{keep, member}
+use Rattle.sale.specs.Lists.{keep, member}
 use Rattle.house.specs.Tickets.{Ticket, runsIn, withDue}
 use Rattle.house.specs.Commands.{awarded}
 use Rattle.house.specs.Sheet.{Line}

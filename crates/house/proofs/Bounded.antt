@@ -9,20 +9,20 @@ use mathlib.Core.List.{List, [], _∷_, map, List·Memᴰ, List·Memᴰ·head, L
 use lib.Dec.{ltb, eqb}
 use lib.ListN.{length, length-append, length-map}
 use borrow.Author.Tests.{ltb-false, eqb-true}
-use Rattle.rules.specs.Lists.{sum, keep, any, member}
-use Rattle.rules.specs.Ways.{ways}
-use Rattle.rules.specs.Price.{chargeLimit, paidGames, charge}
-use Rattle.rules.specs.Prize.{majorFloor}
-use Rattle.rules.specs.Cut.{majorsLimit, payout}
-use Rattle.rules.specs.Jackpots.{guaranteeOfSix, guaranteeOfEight}
-use Rattle.rules.specs.Settle.{Entry}
-use Rattle.rules.specs.Bounds.{Sound}
-use Rattle.rules.specs.Checks.{Operands, operandCode, wayCount, chargeOf}
-use Rattle.rules.specs.declared.jackpot.Jackpot.{Jackpot}
-use Rattle.rules.specs.declared.terms.Draw.{Draw}
-use Rattle.rules.proofs.KeepLaws.{length-keep-le}
-use Rattle.rules.proofs.CutPayouts.{payout-le}
-use Rattle.rules.proofs.SettleLaws.{prizes-within, contributions-within, seeds-within, debts-balance, six-guarantee-kept, eight-guarantee-kept}
+use Rattle.sale.specs.Lists.{sum, keep, any, member}
+use Rattle.sale.specs.Ways.{ways}
+use Rattle.sale.specs.Price.{chargeLimit, paidGames, charge}
+use Rattle.prizes.specs.Prize.{majorFloor}
+use Rattle.prizes.specs.Cut.{majorsLimit, payout}
+use Rattle.prizes.specs.Jackpots.{guaranteeOfSix, guaranteeOfEight}
+use Rattle.prizes.specs.Settle.{Entry}
+use Rattle.sale.specs.Bounds.{Sound}
+use Rattle.sale.specs.Checks.{Operands, operandCode, wayCount, chargeOf}
+use Rattle.prizes.specs.declared.jackpot.Jackpot.{Jackpot}
+use Rattle.prizes.specs.declared.draw.Draw.{Draw}
+use Rattle.sale.proofs.KeepLaws.{length-keep-le}
+use Rattle.prizes.proofs.CutPayouts.{payout-le}
+use Rattle.prizes.proofs.SettleLaws.{prizes-within, contributions-within, seeds-within, debts-balance, six-guarantee-kept, eight-guarantee-kept}
 use Rattle.house.specs.Tickets.{Ticket, termsOf, runsIn, isLive, paidStakes, entryOf, withDue}
 use Rattle.house.specs.Model.{Model, fresh, ticketLimit, gameLimit, liveLimit}
 use Rattle.house.specs.Commands.{Command, open′, sell, cancel, ball, claim, expire, transfer, act, opened, sold, cancelled, ballsWith, settles, runningIn, settlement, awarded, gameSettled, ballEntered, claimed, expired, withPrimary, transferred, changed, stillLive, soldTicket, codeOf}
@@ -31,7 +31,7 @@ use Rattle.house.specs.Balance.{Balanced}
 use Rattle.house.proofs.Ledger.{All, Kept, Orderly, withLive, houseOf, ticketsAfter, ledgerAfter}
 use Rattle.house.proofs.Refusals.{operands-accepted, sell-accepted, ball-accepted}
 use Rattle.house.proofs.SomeWay.{ways-some}
-use Rattle.rules.proofs.WayLaws.{ways-lt}
+use Rattle.sale.proofs.WayLaws.{ways-lt}
 pub use Rattle.house.proofs.MoneyLaws.{all-kept}
 
 -- ---- lists

@@ -10,9 +10,10 @@ use lib.Dec.{leb, eqb}
 use lib.ListN.{length, getD, length-map, length-append}
 use lib.Seq.{ext-getD}
 use borrow.Author.Tests.{le-leb, leb-true, eq-eqb, ne-eqb, eqb-false}
-use Rattle.rules.specs.Lists.{below, keep, every, any, member}
-use Rattle.rules.specs.Ways.{markOf, sizeOf, hitsOf}
-use Rattle.rules.proofs.KeepLaws.{keep-append, length-keep-le}
+use Rattle.sale.specs.Lists.{below, keep, every, any, member}
+use Rattle.sale.specs.Ways.{markOf, sizeOf}
+use Rattle.prizes.specs.Hits.{hitsOf}
+use Rattle.sale.proofs.KeepLaws.{keep-append, length-keep-le}
 use Rattle.house.specs.Model.{Model, fresh}
 use Rattle.house.specs.Commands.{Command, open′, sell, cancel, ball, claim, expire, transfer, codeOf, act, step, ballsWith, settles, opened, sold, cancelled, gameSettled, ballEntered, claimed, expired, transferred}
 use Rattle.house.specs.Balance.{State, next, runFrom, Reached}

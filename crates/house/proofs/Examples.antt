@@ -5,16 +5,18 @@ use mathlib.Core.List.{List, [], _∷_, _++_, map, zipWith}
 use Prim.Native.Nat.{ℕ, _+_, _-_}
 use lib.ListN.{replicate}
 use lib.Count.{ones, onesIn}
-use Rattle.rules.specs.Lists.{sum, below, keep, every, any, member}
-use Rattle.rules.specs.Kinds.{kindOf, within}
-use Rattle.rules.specs.Ways.{markOf, sizeOf, hitsOf, byGroup, nominated, ways, maskSum, waySizes}
-use Rattle.rules.specs.Price.{paidGames, minimumStake, stakeFits, charge}
-use Rattle.rules.specs.Checks.{firstMet, marksFit, operandRows}
-use Rattle.rules.specs.Schedules.{standardRows, cell}
-use Rattle.rules.specs.Prize.{dollars, prize}
-use Rattle.rules.specs.Cut.{floorCount, cutBase, joins, roundOf, rounds, flooredOf, cutPrize, payout}
-use Rattle.rules.specs.Jackpots.{contribution, contributed, winningStakes, shareOf, oddCents, sharesFrom, jackpotWon, jackpotShares, seedOf, reseeded, repaid}
-use Rattle.rules.specs.Settle.{prizesBy, fullBy, jackpotBy, winnerOf, paidFor, majorsOf, prizesOf, settleJackpot, settle}
+use Rattle.sale.specs.Lists.{sum, below, keep, every, any, member}
+use Rattle.sale.specs.Kinds.{kindOf, within}
+use Rattle.sale.specs.Ways.{markOf, sizeOf, byGroup, nominated, ways, maskSum, waySizes}
+use Rattle.prizes.specs.Hits.{hitsOf}
+use Rattle.sale.specs.Price.{paidGames, minimumStake, stakeFits, charge}
+use Rattle.sale.specs.Checks.{firstMet, marksFit, operandRows}
+use Rattle.prizes.specs.Schedules.{standardRows, cell}
+use Rattle.prizes.specs.Prize.{dollars, prize}
+use Rattle.prizes.specs.Cut.{floorCount, cutBase, joins, roundOf, rounds, flooredOf, cutPrize, payout}
+use Rattle.prizes.specs.Jackpots.{contribution, contributed, winningStakes, shareOf, oddCents, sharesFrom, jackpotWon, jackpotShares, seedOf, reseeded, repaid}
+use Rattle.prizes.specs.Settle.{prizesBy, fullBy, winnerOf, paidFor, majorsOf, prizesOf, settleJackpot, settle}
+use Rattle.sale.specs.Kinds.{jackpotBy}
 use Rattle.house.specs.Tickets.{runsIn, gamesLeft, paidStakes}
 use Rattle.house.specs.Commands.{changed, Command, open′, sell, ball, claim, ticketAt, stillLive, rowsOf, codeOf, opened, sold, settlement, awarded, gameSettled, ballEntered, claimed, act, reply, step}
 use Rattle.house.specs.Balance.{run, answerAfter, next, runFrom}

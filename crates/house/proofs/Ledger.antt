@@ -5,10 +5,10 @@ use mathlib.Core.Path.{_≡_}
 use mathlib.Core.Bool.{cond}
 use mathlib.Core.List.{List, [], _∷_, _++_, map}
 use lib.ListN.{length}
-use Rattle.rules.specs.Checks.{operandCode, wayCount}
-use Rattle.rules.specs.Price.{paidGames}
-use Rattle.rules.specs.Ways.{sizes, sizeWord}
-use Rattle.rules.specs.Settle.{jackpotBy}
+use Rattle.sale.specs.Checks.{operandCode, wayCount}
+use Rattle.sale.specs.Price.{paidGames}
+use Rattle.sale.specs.Ways.{sizes, sizeWord}
+use Rattle.sale.specs.Kinds.{jackpotBy}
 use Rattle.house.specs.Tickets.{Ticket, termsOf, gamesLeft, withDue}
 use Rattle.house.specs.Model.{Model, gameLimit}
 use Rattle.house.specs.Commands.{Command, open′, sell, cancel, ball, claim, expire, transfer, act, stillLive, changed, cancelledTicket, soldTicket, settles, settlement, awarded, finishedOn, isExpired}

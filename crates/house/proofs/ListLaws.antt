@@ -2,9 +2,9 @@
 use mathlib.Core.Path.{_≡_, refl, ap}
 use mathlib.Core.Bool.{Bool, true, false, cond}
 use mathlib.Core.List.{List, [], _∷_, _++_, map}
-use Rattle.rules.specs.Lists.{keep}
+use Rattle.sale.specs.Lists.{keep}
 use Rattle.house.proofs.Ledger.{All}
-pub use Rattle.rules.proofs.KeepLaws.{keep-append}
+pub use Rattle.sale.proofs.KeepLaws.{keep-append}
 
 -- either way of a choice
 pub cond-either : {A : Type 0} {x y : A} (P : A → Type 0) (b : Bool) → P x → P y → P (cond b x y)

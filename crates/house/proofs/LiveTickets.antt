@@ -7,8 +7,8 @@ use mathlib.Core.Bool.{Bool, true, false, cond, _&&_}
 use mathlib.Core.List.{List, [], _∷_, map}
 use lib.Dec.{ltb, leb, eqb}
 use borrow.Author.Tests.{ltb-true, leb-true, eqb-true, eq-eqb, ne-eqb, not-false}
-use Rattle.rules.specs.Lists.{keep}
-use Rattle.rules.specs.Checks.{Operands}
+use Rattle.sale.specs.Lists.{keep}
+use Rattle.sale.specs.Checks.{Operands}
 use Rattle.house.specs.Tickets.{Ticket, runsIn, gamesLeft, isFinished, isLive, withDue, withStop, withFinishedDay}
 use Rattle.house.specs.Model.{Model, nextGame, isDrawing}
 use Rattle.house.specs.Commands.{Command, open′, sell, cancel, ball, claim, expire, transfer, codeOf, act, opened, sold, cancelled, gameSettled, ballEntered, claimed, expired, transferred, changed, stillLive, awarded, settles, settlement, finishedOn, cancelStop, cancelledTicket, soldTicket, isExpired}

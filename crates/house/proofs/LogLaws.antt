@@ -8,7 +8,7 @@ use mathlib.Core.List.{List, _∷_, map}
 use lib.Dec.{ltb, eqb}
 use lib.ListN.{length}
 use borrow.Author.Tests.{eq-eqb, ne-eqb}
-use Rattle.rules.specs.Lists.{sum, keep}
+use Rattle.sale.specs.Lists.{sum, keep}
 use Rattle.house.specs.Commands.{Command, ball}
 use Rattle.house.specs.Sheet.{feed, moved, playing, sheetSettlement, gamesFrom}
 use Rattle.house.proofs.SpanLaws.{keep-below}

@@ -5,9 +5,9 @@ use mathlib.Core.Bool.{Bool, true, false, cond, _&&_, _||_}
 use mathlib.Core.List.{List, [], _∷_, _++_, map, map-map, map-append}
 use native.Mathlib.Nat.{add-zero}
 use native.Mathlib.Omega.{arith}
-use Rattle.rules.specs.Lists.{sum, keep, any}
+use Rattle.sale.specs.Lists.{sum, keep, any}
 use Rattle.house.proofs.Ledger.{All}
-pub use Rattle.rules.proofs.WayLaws.{keep-map}
+pub use Rattle.sale.proofs.WayLaws.{keep-map}
 
 module _ {A : Type 0} where
   pub all-of : {P : A → Type 0} → ((x : A) → P x) → (xs : List A) → All P xs

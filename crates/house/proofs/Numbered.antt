@@ -8,7 +8,7 @@ use mathlib.Core.List.{List, [], _∷_, map}
 use lib.Dec.{eqb}
 use lib.ListN.{length}
 use borrow.Author.Tests.{eqb-true, eqb-false}
-use Rattle.rules.specs.Lists.{keep, any}
+use Rattle.sale.specs.Lists.{keep, any}
 use Rattle.house.specs.Tickets.{Ticket}
 use Rattle.house.specs.Commands.{ticketAt, hasTicket}
 use Rattle.house.specs.Sheet.{gamesFrom}

@@ -10,10 +10,10 @@ use mathlib.Core.List.{List, [], _∷_, _++_, map}
 use lib.Dec.{eqb}
 use lib.ListN.{length, length-map, length-append}
 use borrow.Author.Tests.{eqb-true, eqb-false}
-use Rattle.rules.specs.Checks.{Operands, operandCode, wayCount}
-use Rattle.rules.specs.Price.{paidGames}
-use Rattle.rules.specs.Ways.{sizes, sizeWord}
-use Rattle.rules.specs.Settle.{jackpotBy}
+use Rattle.sale.specs.Checks.{Operands, operandCode, wayCount}
+use Rattle.sale.specs.Price.{paidGames}
+use Rattle.sale.specs.Ways.{sizes, sizeWord}
+use Rattle.sale.specs.Kinds.{jackpotBy}
 use Rattle.house.specs.Tickets.{Ticket, termsOf, runsIn, gamesLeft, isFinished, withDue, withStop, withFinishedDay}
 use Rattle.house.specs.Model.{Model, Counters, fresh, gameLimit}
 use Rattle.house.specs.Commands.{Command, open′, sell, cancel, ball, claim, expire, transfer, codeOf, act, opened, sold, cancelled, gameSettled, ballEntered, claimed, expired, transferred, changed, awarded, ballsWith, settles, settlement, finishedOn, cancelStop, cancelledTicket, soldTicket, isExpired}

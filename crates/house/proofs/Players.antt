@@ -9,8 +9,8 @@ use mathlib.Core.List.{List, [], _∷_, map, map-map}
 use lib.Dec.{ltb, leb, eqb}
 use lib.ListN.{length}
 use borrow.Author.Tests.{le-leb, lt-leb, lt-ltb, le-ltb, leb-true, ltb-false, eq-eqb, ne-eqb, eqb-true}
-use Rattle.rules.specs.Lists.{keep, any, member}
-use Rattle.rules.proofs.KeepLaws.{ltb-same}
+use Rattle.sale.specs.Lists.{keep, any, member}
+use Rattle.sale.proofs.KeepLaws.{ltb-same}
 use Rattle.house.specs.Tickets.{Ticket, runsIn}
 use Rattle.house.specs.Model.{Model}
 use Rattle.house.specs.Commands.{Command, open′, sell, cancel, ball, claim, expire, transfer, codeOf, runningIn}

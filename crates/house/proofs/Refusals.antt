@@ -9,11 +9,11 @@ use mathlib.Core.Logic.{_⊎_, inl, inr}
 use lib.Dec.{ltb, leb, eqb}
 use lib.ListN.{length}
 use borrow.Author.Tests.{ltb-false, leb-true, leb-false, eqb-true, eqb-false, not-false}
-use Rattle.rules.specs.Lists.{member}
-use Rattle.rules.specs.Kinds.{kindOf, isSpecialOne, sizesFit}
-use Rattle.rules.specs.Ways.{sizes, waySizes}
-use Rattle.rules.specs.Price.{chargeLimit, stakeFits}
-use Rattle.rules.specs.Checks.{Operands, firstMet, marksFit, operandRows, operandCode, wayCount, chargeOf}
+use Rattle.sale.specs.Lists.{member}
+use Rattle.sale.specs.Kinds.{kindOf, isSpecialOne, sizesFit}
+use Rattle.sale.specs.Ways.{sizes, waySizes}
+use Rattle.sale.specs.Price.{chargeLimit, stakeFits}
+use Rattle.sale.specs.Checks.{Operands, firstMet, marksFit, operandRows, operandCode, wayCount, chargeOf}
 use Rattle.house.specs.Tickets.{isFinished, kenoToGoBegun}
 use Rattle.house.specs.Model.{Model, gameLimit, liveLimit, ticketLimit, isDrawing, nextGame}
 use Rattle.house.specs.Commands.{sell, cancel, ball, claim, transfer, ticketAt, hasTicket, cancelStop, rowsOf, codeOf}

@@ -6,9 +6,9 @@ use mathlib.Core.Bool.{Bool, true, false, cond, _&&_}
 use mathlib.Core.List.{List, [], _∷_, _++_, map}
 use lib.Dec.{eqb}
 use lib.ListN.{length, length-append}
-use Rattle.rules.specs.Lists.{member}
-use Rattle.rules.specs.Checks.{Operands, chargeOf}
-use Rattle.rules.specs.Jackpots.{guaranteeOfSix, guaranteeOfEight}
+use Rattle.sale.specs.Lists.{member}
+use Rattle.sale.specs.Checks.{Operands, chargeOf}
+use Rattle.prizes.specs.Jackpots.{guaranteeOfSix, guaranteeOfEight}
 use Rattle.house.specs.Tickets.{Ticket, isFinished, isLive, paidStakes, heldFor, withStop, withFinishedDay}
 use Rattle.house.specs.Model.{Model, nextGame}
 use Rattle.house.specs.Commands.{Command, sell, cancel, ball, claim, replies, ticketAt, stillLive, runningIn, finishedOn, cancelStop, cancelledTicket, codeOf, refundOf, sold, cancelled, gameSettled, ballEntered, claimed, act, reply, step}

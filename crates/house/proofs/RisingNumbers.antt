@@ -8,7 +8,7 @@ use mathlib.Core.List.{List, [], _∷_, map}
 use native.Mathlib.Nat.{not-suc-le-zero, le-of-suc-le-suc}
 use native.Mathlib.Omega.{arith}
 use lib.ListN.{length, getD, set}
-use Rattle.rules.specs.Lists.{keep}
+use Rattle.sale.specs.Lists.{keep}
 use Rattle.house.specs.Tickets.{Ticket, isLive}
 use Rattle.house.specs.Model.{Model}
 use Rattle.house.specs.Commands.{blankTicket, ticketAt, changed, stillLive}

@@ -12,7 +12,7 @@ use borrow.Author.Tests.{lt-ltb, eq-eqb, ne-eqb, eqb-true}
 use lib.Dec.{lit<, eqb, ltb, leb·suc-suc}
 use lib.ListN.{length, getD, set, take, drop, length-set, length-map, length-take, length-drop}
 use lib.Seq.{sets, sets-eq, length-sets, set-set, getD-set-same, getD-set-other, getD-take, getD-drop, ext-getD, take-set-lt, take-suc-set, length-take-le, take-at, drop-at, set-split}
-use Rattle.rules.specs.Lists.{keep, any}
+use Rattle.sale.specs.Lists.{keep, any}
 use Rattle.house.specs.Tickets.{Ticket, isLive}
 use Rattle.house.specs.Commands.{blankTicket, ticketAt, hasTicket, changed, stillLive}
 use Rattle.house.specs.View.{rowOf, putRow, marksAt, putMarks, ticketFrom, ticketIn, ticketsOf, placeOf, RisingRows, without, shifted}

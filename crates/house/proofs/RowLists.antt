@@ -13,7 +13,7 @@ use borrow.Author.Tests.{eqb-true, eqb-false, ltb-true, ltb-false}
 use lib.ListN.{length, getD, set, take, drop, length-set, length-append, length-map, length-drop, List·getD-append}
 use lib.Seq.{sets, getD-set-same, getD-set-other, getD-take, getD-drop, take-suc, take-all, drop-cons, drop-length, append-snoc, set-at, getD-append-seam, drop-at, length-take-le}
 use borrow.Rule.Slice.PartMut.{putMid}
-use Rattle.rules.specs.Lists.{below}
+use Rattle.sale.specs.Lists.{below}
 use Rattle.house.specs.View.{without, shifted}
 
 module _ {A : Type 0} where

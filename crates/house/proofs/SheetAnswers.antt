@@ -5,7 +5,7 @@ use mathlib.Core.Bool.{Bool, true, false, cond}
 use mathlib.Core.List.{[], _∷_}
 use lib.Dec.{eqb}
 use lib.ListN.{length, length-append, length-map}
-use Rattle.rules.specs.Lists.{sum}
+use Rattle.sale.specs.Lists.{sum}
 use Rattle.house.specs.Model.{Model, fresh}
 use Rattle.house.specs.Commands.{Command, open′, sell, cancel, ball, claim, expire, transfer, codeOf, expiring, reply}
 use Rattle.house.specs.Till.{tillOf}

@@ -9,10 +9,10 @@ use native.Mathlib.Omega.{arith}
 use lib.Dec.{ltb, eqb}
 use lib.ListN.{length}
 use borrow.Author.Tests.{eqb-true, ne-eqb}
-use Rattle.rules.specs.Lists.{sum, keep, any, member}
-use Rattle.rules.specs.Checks.{Operands, chargeOf, wayCount}
-use Rattle.rules.specs.Price.{charge, paidGames}
-use Rattle.rules.specs.Settle.{settle}
+use Rattle.sale.specs.Lists.{sum, keep, any, member}
+use Rattle.sale.specs.Checks.{Operands, chargeOf, wayCount}
+use Rattle.sale.specs.Price.{charge, paidGames}
+use Rattle.prizes.specs.Settle.{settle}
 use Rattle.house.specs.Tickets.{Ticket, runsIn, gamesLeft, isFinished, isLive, paidStakes, heldFor, entryOf, withDue, withStop, withFinishedDay}
 use Rattle.house.specs.Model.{Model, nextGame}
 use Rattle.house.specs.Commands.{ticketAt, hasTicket, changed, stillLive, finishedOn, soldTicket, cancelStop, cancelledTicket, refundOf, awarded, runningIn, stakesDrawn, settlement, isExpired, expiring}

@@ -8,8 +8,8 @@ use native.Mathlib.Omega.{arith}
 use lib.Dec.{ltb, leb, eqb}
 use lib.ListN.{length, length-map}
 use borrow.Author.Tests.{ltb-true, ltb-false, lt-leb, le-leb, le-ltb, lt-ltb, not-false, eqb-true, eqb-false, eq-eqb, ne-eqb}
-use Rattle.rules.specs.Lists.{keep}
-use Rattle.rules.specs.Checks.{Operands}
+use Rattle.sale.specs.Lists.{keep}
+use Rattle.sale.specs.Checks.{Operands}
 use Rattle.house.specs.Tickets.{Ticket, runsIn, gamesLeft, paidStakes, isFinished, isLive, withDue, withStop, withFinishedDay}
 use Rattle.house.specs.Model.{Model, isDrawing, nextGame}
 use Rattle.house.specs.Commands.{soldTicket, changed, cancelStop, cancelledTicket, finishedOn, awarded, isExpired}

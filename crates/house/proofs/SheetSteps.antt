@@ -11,10 +11,10 @@ use native.Mathlib.Omega.{arith}
 use lib.Dec.{eqb, eqb·suc-suc}
 use lib.ListN.{length, length-append, length-map}
 use borrow.Author.Tests.{eq-eqb, ne-eqb}
-use Rattle.rules.specs.Lists.{sum, keep}
-use Rattle.rules.specs.Checks.{Operands, chargeOf}
-use Rattle.rules.specs.Jackpots.{pooled}
-use Rattle.rules.specs.Settle.{Settled}
+use Rattle.sale.specs.Lists.{sum, keep}
+use Rattle.sale.specs.Checks.{Operands, chargeOf}
+use Rattle.prizes.specs.Jackpots.{pooled}
+use Rattle.prizes.specs.Settle.{Settled}
 use Rattle.house.specs.Tickets.{Ticket, runsIn, paidStakes, heldFor, entryOf, withDue}
 use Rattle.house.specs.Model.{Model}
 use Rattle.house.specs.Commands.{Command, open′, sell, cancel, ball, claim, expire, transfer, act, codeOf, hasTicket, opened, sold, soldTicket, cancelled, cancelledTicket, changed, ballsWith, settles, settlement, runningIn, stakesDrawn, awarded, finishedOn, gameSettled, ballEntered, claimed, expired, isExpired, refundOf, ticketAt, expiring, transferred, withPrimary}
@@ -27,7 +27,7 @@ use Rattle.house.proofs.Refusals.{cancel-accepted, claim-accepted, tran
 use Rattle.house.proofs.SheetLines.{sold-line, cancelled-lines, claimed-lines, expired-lines, settled-lines}
 use Rattle.house.proofs.SheetFigures.{dues, stakesHeld, sold-held, cancel-total, cancel-held, cancel-owed, claim-total, claim-owed, claim-held, late-dues, expire-owed, expire-held, finished-due, finished-held, awarded-owed, awarded-unmoved, drawn-held, settlements-alike, stakes-alike}
 use Rattle.house.proofs.LiveTickets.{running-live}
-use Rattle.rules.proofs.SettleLaws.{awards-count, awards-sum, pools-balance}
+use Rattle.prizes.proofs.SettleLaws.{awards-count, awards-sum, pools-balance}
 
 figures-same : {f g : Figures} →
     f .taken ≡ g .taken → f .seeds ≡ g .seeds → f .paid ≡ g .paid → f .refunded ≡ g .refunded → f .owed ≡ g .owed →

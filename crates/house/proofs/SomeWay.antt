@@ -11,9 +11,9 @@ use lib.Dec.{ltb}
 use lib.ListN.{length}
 use lib.Pow.{pow-mono, ones-lt}
 use borrow.Author.Tests.{ltb-true, ltb-false}
-use Rattle.rules.specs.Lists.{below, keep}
-use Rattle.rules.specs.Ways.{nominated, ways}
-use Rattle.rules.specs.Checks.{Operands, operandCode, wayCount}
+use Rattle.sale.specs.Lists.{below, keep}
+use Rattle.sale.specs.Ways.{nominated, ways}
+use Rattle.sale.specs.Checks.{Operands, operandCode, wayCount}
 use Rattle.house.proofs.Refusals.{operands-accepted}
 
 below-has : (n m : ℕ) → m < n → List·Memᴰ m (below n)

@@ -10,9 +10,9 @@ use native.Mathlib.Omega.{arith}
 use lib.Dec.{ltb, leb, eqb}
 use lib.ListN.{length}
 use borrow.Author.Tests.{ltb-true, ltb-false, leb-true, leb-false, eq-eqb, ne-eqb}
-use Rattle.rules.specs.Lists.{keep, any, member}
-use Rattle.rules.specs.Checks.{wayCount}
-use Rattle.rules.specs.Price.{charge}
+use Rattle.sale.specs.Lists.{keep, any, member}
+use Rattle.sale.specs.Checks.{wayCount}
+use Rattle.sale.specs.Price.{charge}
 use Rattle.house.specs.Tickets.{Ticket, runsIn, gamesLeft, paidStakes, heldFor}
 use Rattle.house.specs.Sheet.{gamesFrom, stakesOf}
 use Rattle.house.proofs.Ledger.{Kept, lineOf}

@@ -8,7 +8,7 @@ use lib.Dec.{eqb, ltb}
 use lib.ListN.{length, getD, take}
 use lib.Seq.{ext-getD}
 use borrow.Author.Tests.{eq-eqb, ne-eqb}
-use Rattle.rules.specs.Lists.{below}
+use Rattle.sale.specs.Lists.{below}
 use Rattle.house.specs.Tickets.{Ticket}
 use Rattle.house.specs.Model.{isDrawing, nextGame}
 use Rattle.house.specs.Commands.{Command, Answer, blankTicket, ticketAt, hasTicket, codeOf, act, reply}

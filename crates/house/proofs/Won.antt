@@ -8,8 +8,8 @@ use mathlib.Core.List.{List, [], _∷_, _++_, map}
 use lib.Dec.{ltb, leb, eqb}
 use lib.ListN.{length, length-append, length-map}
 use borrow.Author.Tests.{ltb-true, ltb-false, leb-true, leb-false, eq-eqb, ne-eqb, eqb-true, eqb-false}
-use Rattle.rules.specs.Lists.{sum, keep}
-use Rattle.rules.specs.Checks.{Operands}
+use Rattle.sale.specs.Lists.{sum, keep}
+use Rattle.sale.specs.Checks.{Operands}
 use Rattle.house.specs.Tickets.{Ticket, runsIn, gamesLeft, isFinished, isLive, entryOf, withDue, withStop, withFinishedDay}
 use Rattle.house.specs.Model.{Model, fresh, nextGame}
 use Rattle.house.specs.Commands.{Command, open′, sell, cancel, ball, claim, expire, transfer, codeOf, reply, act, opened, sold, cancelled, claimed, expired, transferred, stillLive, changed, cancelStop, isExpired, ticketAt, soldTicket, cancelledTicket, settles, ballEntered, gameSettled, settlement, runningIn, awarded, finishedOn}
@@ -25,7 +25,7 @@ use Rattle.house.proofs.Refusals.{and-true, CancelAccepted, ClaimAccept
 use Rattle.house.proofs.Numbered.{all-both, Within, row-within, found, only}
 use Rattle.house.proofs.AwardLaws.{awardedAt, awarded-by-number, playing-lines}
 use Rattle.house.proofs.LogLaws.{logged, wonIn, won-by-span, withBall, awardNow, won-early, won-running, won-idle, sheet-refused, accepted-refused, span-refused, won-refused}
-use Rattle.rules.proofs.SettleLaws.{awards-count}
+use Rattle.prizes.proofs.SettleLaws.{awards-count}
 
 -- a ticket's due: what it has won, and no claim of it was accepted; or nothing, since it was moved when no game was left
 pub data Dues (due won left claims : ℕ) : Type 0 where

@@ -7,7 +7,7 @@ use mathlib.Core.Bool.{Bool, true, false, cond, _&&_}
 use mathlib.Core.List.{List, [], _∷_, map}
 use lib.Dec.{ltb, eqb}
 use lib.ListN.{length}
-use Rattle.rules.specs.Lists.{sum, keep, member}
+use Rattle.sale.specs.Lists.{sum, keep, member}
 use Rattle.house.specs.Command.{Command, open′, sell, cancel, ball, claim, expire, transfer}
 use Rattle.house.specs.Draws.{Different}
 use Rattle.house.specs.Sheet.{Sheet, Line, freshSheet, feed, playing, sheetSettlement, gamesFrom}

@@ -2,7 +2,7 @@
 -- ticket (4) [..] Expire [..] Transfer: jackpot 6 or 8 (1), cents (4)": the seven commands with their operands, and nothing of what they do.
 -- The house and the count sheet are both fed them.
 use Prim.Native.Nat.{ℕ}
-use Rattle.rules.specs.Checks.{Operands}
+use Rattle.sale.specs.Checks.{Operands}
 
 pub data Command : Type 0 where
   open′ : ℕ → Command

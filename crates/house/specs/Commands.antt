@@ -5,16 +5,19 @@ use mathlib.Core.Bool.{Bool, cond, not, _&&_, _||_}
 use mathlib.Core.List.{List, [], _∷_, _++_, map}
 use lib.Dec.{ltb, leb, eqb}
 use lib.ListN.{length}
-use Rattle.rules.specs.Lists.{sum, keep, any, member}
-use Rattle.rules.specs.Checks.{Operands, operandRows, firstMet, wayCount, chargeOf}
-use Rattle.rules.specs.Price.{paidGames}
-use Rattle.rules.specs.Ways.{sizes, sizeWord}
-use Rattle.rules.specs.Settle.{Settled, settle, jackpotBy}
-use Rattle.rules.specs.declared.jackpot.Jackpot.{Jackpot}
+use Rattle.sale.specs.Lists.{sum, keep, any, member}
+use Rattle.sale.specs.Checks.{Operands, operandRows, firstMet, wayCount, chargeOf}
+use Rattle.sale.specs.Price.{paidGames}
+use Rattle.sale.specs.Ways.{sizes, sizeWord}
+use Rattle.prizes.specs.Hits.{drawOf}
+use Rattle.prizes.specs.Settle.{Settled, settle}
+use Rattle.prizes.specs.declared.draw.Draw.{Draw}
+use Rattle.sale.specs.Kinds.{jackpotBy}
+use Rattle.prizes.specs.declared.jackpot.Jackpot.{Jackpot}
 pub use Rattle.house.specs.declared.answer.Answer.{Answer}
 pub use Rattle.house.specs.Command.{Command, open′, sell, cancel, ball, claim, expire, transfer}
 use Rattle.house.specs.Tickets.{Ticket, termsOf, runsIn, isFinished, isLive, paidStakes, entryOf, kenoToGoBegun, withDue, withStop, withFinishedDay}
-use Rattle.house.specs.Model.{Model, Counters, ticketLimit, gameLimit, liveLimit, isDrawing, nextGame, withTickets, withTaken, withPaid, withRefunded, withUnclaimed, withTransferred}
+use Rattle.house.specs.Model.{Model, Counters, ticketLimit, gameLimit, liveLimit, isDrawing, nextGame, withTickets, withMoney, withTaken, withPaid, withRefunded, withUnclaimed, withTransferred}
 
 -- ---- tickets by number
 
@@ -143,6 +146,32 @@ cancelled n m =
     (stillLive (m .game) (changed n (cancelledTicket m) (m .live)))
     (withRefunded (refundOf n m) (m .counters))
 
+-- The end of a game, over any list of awards to the tickets that run in it, in their order: each ticket that runs in the game is due its award
+-- beside what it was due,
+unfoldable pub awarded : ℕ → List ℕ → List Ticket → List Ticket
+awarded game awards [] = []
+awarded game [] (t ∷ ts) = t ∷ awarded game [] ts
+awarded game (a ∷ awards) (t ∷ ts) =
+    cond (runsIn game t) (withDue t (t .due + a) ∷ awarded game awards ts) (t ∷ awarded game (a ∷ awards) ts)
+
+-- one with no game left gets the day as its finishing day, and one with nothing due then closes;
+abbrev pub ticketsAfterGame : ℕ → ℕ → List ℕ → List Ticket → List Ticket
+ticketsAfterGame day game awards ts = stillLive (game + 1) (map (finishedOn day (game + 1)) (awarded game awards ts))
+
+-- the next game is current and has no balls. What the pools and the counters do is for the command to say.
+abbrev pub gameEnded : List ℕ → Model → Model
+gameEnded awards m =
+    record {
+      day = m .day;
+      game = m .game + 1;
+      balls = [];
+      issued = m .issued;
+      live = ticketsAfterGame (m .day) (m .game) awards (m .live);
+      six = m .six;
+      eight = m .eight;
+      counters = m .counters;
+    }
+
 -- Ball: one number more; the twentieth settles the game
 abbrev pub ballsWith : ℕ → Model → List ℕ
 ballsWith b m = m .balls ++ (b ∷ [])
@@ -153,15 +182,12 @@ settles b m = eqb (length (ballsWith b m)) 20
 abbrev pub runningIn : Model → List Ticket
 runningIn m = keep (runsIn (m .game)) (m .live)
 
-unfoldable pub settlement : ℕ → Model → Settled
-settlement b m = settle (record { balls = ballsWith b m }) (m .six) (m .eight) (map (entryOf (m .game)) (runningIn m))
+-- the settlement of the current game by a draw
+abbrev pub settledBy : Draw → Model → Settled
+settledBy draw m = settle draw (m .six) (m .eight) (map (entryOf (m .game)) (runningIn m))
 
--- each ticket that runs in the game is due its award beside what it was due
-unfoldable pub awarded : ℕ → List ℕ → List Ticket → List Ticket
-awarded game awards [] = []
-awarded game [] (t ∷ ts) = t ∷ awarded game [] ts
-awarded game (a ∷ awards) (t ∷ ts) =
-    cond (runsIn game t) (withDue t (t .due + a) ∷ awarded game awards ts) (t ∷ awarded game (a ∷ awards) ts)
+unfoldable pub settlement : ℕ → Model → Settled
+settlement b m = settledBy (drawOf (ballsWith b m)) m
 
 -- the paid stakes of the game that is drawn
 abbrev pub stakesDrawn : Model → ℕ
@@ -183,16 +209,7 @@ afterGame stakes s c =
 unfoldable pub gameSettled : ℕ → Model → Model
 gameSettled b m =
     let s = settlement b m in
-    record {
-      day = m .day;
-      game = m .game + 1;
-      balls = [];
-      issued = m .issued;
-      live = stillLive (m .game + 1) (map (finishedOn (m .day) (m .game + 1)) (awarded (m .game) (s .awards) (m .live)));
-      six = s .six;
-      eight = s .eight;
-      counters = afterGame (stakesDrawn m) s (m .counters);
-    }
+    withMoney (gameEnded (s .awards) m) (s .six) (s .eight) (afterGame (stakesDrawn m) s (m .counters))
 
 unfoldable pub ballEntered : ℕ → Model → Model
 ballEntered b m =
@@ -227,16 +244,10 @@ jackpotFor j m = cond (eqb j 6) (m .six) (m .eight)
 
 unfoldable pub transferred : ℕ → ℕ → Model → Model
 transferred j cents m =
-    record {
-      day = m .day;
-      game = m .game;
-      balls = m .balls;
-      issued = m .issued;
-      live = m .live;
-      six = cond (eqb j 6) (withPrimary (m .six) (m .six .primary + cents)) (m .six);
-      eight = cond (eqb j 6) (m .eight) (withPrimary (m .eight) (m .eight .primary + cents));
-      counters = withTransferred cents (m .counters);
-    }
+    withMoney m
+    (cond (eqb j 6) (withPrimary (m .six) (m .six .primary + cents)) (m .six))
+    (cond (eqb j 6) (m .eight) (withPrimary (m .eight) (m .eight .primary + cents)))
+    (withTransferred cents (m .counters))
 
 -- ---- the answer's number and cents
 

@@ -6,8 +6,9 @@ use mathlib.Core.Bool.{true, false, _&&_}
 use mathlib.Core.List.{List, [], _∷_, map}
 use lib.Dec.{leb, eqb}
 use lib.ListN.{length}
-use Rattle.rules.specs.Lists.{below, keep, every, member}
-use Rattle.rules.specs.Ways.{markOf, sizeOf, hitsOf}
+use Rattle.sale.specs.Lists.{below, keep, every, member}
+use Rattle.sale.specs.Ways.{markOf, sizeOf}
+use Rattle.prizes.specs.Hits.{hitsOf}
 
 -- no number stands twice
 abbrev pub Different : List ℕ → Type 0

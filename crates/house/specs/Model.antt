@@ -5,8 +5,8 @@ use mathlib.Core.Bool.{Bool, not, cond}
 use mathlib.Core.List.{List, []}
 use lib.Dec.{eqb}
 use lib.ListN.{length}
-use Rattle.rules.specs.Jackpots.{guaranteeOfSix, guaranteeOfEight, freshJackpot}
-use Rattle.rules.specs.declared.jackpot.Jackpot.{Jackpot}
+use Rattle.prizes.specs.Jackpots.{guaranteeOfSix, guaranteeOfEight, freshJackpot}
+use Rattle.prizes.specs.declared.jackpot.Jackpot.{Jackpot}
 use Rattle.house.specs.Tickets.{Ticket}
 
 -- the figures of the till that no ticket or pool tells; retained is gained less lost
@@ -64,6 +64,11 @@ nextGame m = cond (isDrawing m) (m .game + 1) (m .game)
 abbrev pub withTickets : Model → List Ticket → Counters → Model
 withTickets m ts c =
     record { day = m .day; game = m .game; balls = m .balls; issued = m .issued; live = ts; six = m .six; eight = m .eight; counters = c }
+
+-- the same house with other pools and counters
+abbrev pub withMoney : Model → Jackpot → Jackpot → Counters → Model
+withMoney m six eight c =
+    record { day = m .day; game = m .game; balls = m .balls; issued = m .issued; live = m .live; six = six; eight = eight; counters = c }
 
 -- one counter moved by so many cents
 module _ (cents : ℕ) (c : Counters) where

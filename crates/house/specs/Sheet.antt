@@ -8,13 +8,13 @@ use mathlib.Core.Bool.{Bool, cond, not, _&&_}
 use mathlib.Core.List.{List, [], _∷_, _++_, map}
 use lib.Dec.{ltb, eqb}
 use lib.ListN.{length}
-use Rattle.rules.specs.Lists.{sum, keep, member}
-use Rattle.rules.specs.Kinds.{kindOf}
-use Rattle.rules.specs.Price.{paidGames, charge}
-use Rattle.rules.specs.Checks.{Operands, wayCount, chargeOf}
-use Rattle.rules.specs.Jackpots.{guaranteeOfSix, guaranteeOfEight, freshJackpot}
-use Rattle.rules.specs.Settle.{Entry, Settled, settle}
-use Rattle.rules.specs.declared.jackpot.Jackpot.{Jackpot}
+use Rattle.sale.specs.Lists.{sum, keep, member}
+use Rattle.sale.specs.Kinds.{kindOf}
+use Rattle.sale.specs.Price.{paidGames, charge}
+use Rattle.sale.specs.Checks.{Operands, wayCount, chargeOf}
+use Rattle.prizes.specs.Jackpots.{guaranteeOfSix, guaranteeOfEight, freshJackpot}
+use Rattle.prizes.specs.Settle.{Entry, Settled, settle}
+use Rattle.prizes.specs.declared.jackpot.Jackpot.{Jackpot}
 use Rattle.house.specs.Command.{Command, open′, sell, cancel, ball, claim, expire, transfer}
 use Rattle.house.specs.Figures.{Figures}
 

@@ -4,11 +4,11 @@
 use Prim.Native.Nat.{ℕ, _+_, _-_, min, max}
 use mathlib.Core.Bool.{Bool, not, _&&_, _||_}
 use lib.Dec.{ltb, leb, eqb}
-use Rattle.rules.specs.Kinds.{kindOf}
-use Rattle.rules.specs.Price.{charge}
-use Rattle.rules.specs.Checks.{Operands}
-use Rattle.rules.specs.Settle.{Entry}
-use Rattle.rules.specs.declared.terms.Terms.{Terms}
+use Rattle.sale.specs.Kinds.{kindOf}
+use Rattle.sale.specs.Price.{charge}
+use Rattle.sale.specs.Checks.{Operands}
+use Rattle.prizes.specs.Settle.{Entry}
+use Rattle.sale.specs.declared.terms.Terms.{Terms}
 
 pub record Ticket : Type 0 where
   pub number : ℕ

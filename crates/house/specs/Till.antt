@@ -2,8 +2,8 @@
 -- neither drawn nor cancelled), unclaimed (expired less transferred), pooled (the six pools [..]), retained (signed [..])."
 use Prim.Native.Nat.{_+_}
 use mathlib.Core.List.{map}
-use Rattle.rules.specs.Lists.{sum}
-use Rattle.rules.specs.Jackpots.{pooled}
+use Rattle.sale.specs.Lists.{sum}
+use Rattle.prizes.specs.Jackpots.{pooled}
 use Rattle.house.specs.Tickets.{heldFor}
 use Rattle.house.specs.Model.{Model}
 pub use Rattle.house.specs.Figures.{Figures}

@@ -7,7 +7,7 @@ use lib.Dec.{eqb}
 use mathlib.Core.Path.{_≡_}
 use lib.ListN.{length, take, drop, getD}
 use lib.Seq.{sets}
-use Rattle.rules.specs.Lists.{below}
+use Rattle.sale.specs.Lists.{below}
 use Rattle.house.specs.Tickets.{Ticket}
 use Rattle.house.specs.Model.{Model, gameLimit}
 use Rattle.house.specs.declared.state.House.{House}

@@ -1,5 +1,5 @@
 // The house as its caller keeps it: a small struct by value. The live tickets stand beside it, in rows and marks that the caller lends.
-use rules::jackpot::Jackpot;
+use prizes::jackpot::Jackpot;
 ghost use mathlib.Core.Path.{_≡_};
 ghost use mathlib.Core.List.{List};
 ghost use Prim.Native.Nat.{ℕ};

@@ -1,9 +1,9 @@
 // Reads a roll from standard input, its first 65,536 bytes, runs it from a fresh house, and prints its answers, the stop code and the till.
-use commands::till::Till;
-use commands::till::till_of;
 use house::state::House;
 use libc::STDIN_FILENO;
 use libc::STDOUT_FILENO;
+use queries::till::Till;
+use queries::till::till_of;
 use roll::reader::Report;
 use roll::reader::read_roll;
 use text::lines::put_stop_line;

@@ -9,8 +9,8 @@ use mathlib.Core.Logic.{⊎-elim}
 use lib.Dec.{eqb}
 use lib.ListN.{length, length-append}
 use borrow.Author.Tests.{eqb-true, eqb-false}
-use Rattle.rules.proofs.KeepLaws.{length-keep-le}
-use Rattle.rules.proofs.SettleLaws.{pools-balance}
+use Rattle.sale.proofs.KeepLaws.{length-keep-le}
+use Rattle.prizes.proofs.SettleLaws.{pools-balance}
 use Rattle.house.specs.Tickets.{entryOf}
 use Rattle.house.specs.Model.{Model}
 use Rattle.house.specs.Commands.{Command, open′, sell, cancel, ball, claim, expire, transfer, codeOf, act, reply, step, cancelled, ballsWith, settles, runningIn, settlement, gameSettled, ballEntered, claimed, isExpired, expired, replies}

@@ -6,7 +6,7 @@ use mathlib.Core.Bool.{Bool, cond, _&&_}
 use mathlib.Core.List.{List, _∷_, _++_}
 use lib.Dec.{leb, eqb}
 use lib.ListN.{getD, take, drop}
-use Rattle.rules.specs.Checks.{Operands}
+use Rattle.sale.specs.Checks.{Operands}
 use Rattle.house.specs.Commands.{Command, open′, sell, cancel, ball, claim, expire, transfer}
 use Rattle.house.specs.declared.answer.Answer.{Answer}
 use Rattle.roll.specs.Bytes.{numberOf, bytesOf}

@@ -6,7 +6,7 @@ use mathlib.Core.Bool.{Bool, true, false}
 use mathlib.Core.List.{List, [], _∷_, _++_, append-assoc, append-nil}
 use lib.ListN.{length, getD, take, drop, length-append}
 use lib.Seq.{drop-drop, getD-drop, drop-cons}
-use Rattle.commands.specs.declared.till.Till.{Till}
+use Rattle.queries.specs.declared.till.Till.{Till}
 use Rattle.roll.specs.Bytes.{numberFrom, numberOf}
 use Rattle.text.specs.Lines.{line, figure, fourFigures, answerLine, recordLine, bookLines, stopLine, signed, tillLine}
 use Rattle.text.proofs.DecimalLaws.{decimal-long, figure-long, four-long}

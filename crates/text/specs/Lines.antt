@@ -6,7 +6,7 @@ use mathlib.Core.Bool.{Bool, cond}
 use mathlib.Core.List.{List, [], _∷_, _++_}
 use lib.Dec.{ltb}
 use lib.ListN.{length, getD, take, drop}
-use Rattle.commands.specs.declared.till.Till.{Till}
+use Rattle.queries.specs.declared.till.Till.{Till}
 use Rattle.roll.specs.Bytes.{numberOf}
 
 -- the decimal digits of a number that has at most so many

@@ -2,7 +2,7 @@
 use crate::decimal::put_byte;
 use crate::decimal::put_figure;
 use crate::decimal::put_four;
-use commands::till::Till;
+use queries::till::Till;
 ghost use mathlib.Core.List.{_∷_, [], _++_};
 ghost use Prim.Native.Nat.{_+_, _≤_};
 ghost use lib.ListN.{length};

@@ -11,8 +11,8 @@ use lib.Dec.{eqb, leb, ltb}
 use lib.ListN.{length, getD, set, take, drop, length-append}
 use lib.Seq.{take-suc, getD-drop, take-suc-set, drop-set-lt, drop-drop}
 use borrow.Author.Tests.{eq-eqb, ne-eqb, lt-ltb, le-ltb, leb-true, leb-false, eqb-true}
-use Rattle.rules.specs.Lists.{sum, keep}
-use Rattle.rules.specs.Checks.{firstMet}
+use Rattle.sale.specs.Lists.{sum, keep}
+use Rattle.sale.specs.Checks.{firstMet}
 use Rattle.house.specs.Tickets.{Ticket, gamesLeft, isLive, withDue}
 use Rattle.house.specs.Model.{Model, fresh}
 use Rattle.house.specs.Commands.{blankTicket, expire, rowsOf, codeOf, stillLive, isExpired, expiring, expired}

@@ -7,7 +7,7 @@ use mathlib.Core.Bool.{Bool, true, false, cond}
 use mathlib.Core.List.{List, [], _∷_, _++_}
 use lib.ListN.{length, take, set}
 use borrow.Author.Tests.{ltb-true, not-false}
-use Rattle.rules.specs.Checks.{firstMet}
+use Rattle.sale.specs.Checks.{firstMet}
 use Rattle.house.specs.Tickets.{Ticket, isLive}
 use Rattle.house.specs.Commands.{blankTicket, ticketAt, changed, stillLive, lookupRows}
 use Rattle.house.specs.View.{ticketIn, ticketsOf, placeOf, without, view}

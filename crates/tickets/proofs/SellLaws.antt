@@ -7,11 +7,11 @@ use mathlib.Core.List.{List, [], _∷_, _++_}
 use lib.Dec.{eqb}
 use lib.ListN.{length, take}
 use borrow.Author.Tests.{eqb-true, eq-eqb, ne-eqb, le-leb, lt-leb, lt-ltb, le-ltb}
-use Rattle.rules.specs.Ways.{sizes, sizeWord}
-use Rattle.rules.specs.Price.{paidGames}
-use Rattle.rules.specs.Checks.{Operands, firstMet, operandRows, operandCode, wayCount, chargeOf, jackpotOf, quoteOf}
-use Rattle.rules.specs.Settle.{jackpotBy}
-use Rattle.rules.specs.declared.check.Quote.{Quote}
+use Rattle.sale.specs.Ways.{sizes, sizeWord}
+use Rattle.sale.specs.Price.{paidGames}
+use Rattle.sale.specs.Checks.{Operands, firstMet, operandRows, operandCode, wayCount, chargeOf, jackpotOf, quoteOf}
+use Rattle.sale.specs.Kinds.{jackpotBy}
+use Rattle.sale.specs.declared.check.Quote.{Quote}
 use Rattle.house.specs.Tickets.{Ticket, termsOf}
 use Rattle.house.specs.Model.{Model, gameLimit, liveLimit, ticketLimit, isDrawing, nextGame}
 use Rattle.house.specs.Commands.{sell, rowsOf, codeOf, soldTicket, sold}

@@ -8,9 +8,9 @@ use lib.ListN.{set, length, take}
 use Rattle.house.specs.Tickets.{Ticket, isFinished, isLive, kenoToGoBegun}
 use Rattle.house.specs.View.{without, ticketsOf}
 use mathlib.Core.Path.{_≡_}
-use Rattle.rules.specs.Lists.{sum, keep}
-use Rattle.rules.specs.Checks.{Operands, operandCode, quoteOf}
-use Rattle.rules.specs.declared.check.Quote.{Quote}
+use Rattle.sale.specs.Lists.{sum, keep}
+use Rattle.sale.specs.Checks.{Operands, operandCode, quoteOf}
+use Rattle.sale.specs.declared.check.Quote.{Quote}
 use Rattle.house.specs.Model.{Model}
 use Rattle.house.specs.Commands.{isExpired, expiring}
 

@@ -11,7 +11,7 @@ use house::state::House;
 ghost use mathlib.Core.Path.{_≡_};
 ghost use mathlib.Core.List.{List};
 ghost use Prim.Native.Nat.{ℕ};
-ghost use Rattle.rules.specs.Checks.{firstMet};
+ghost use Rattle.sale.specs.Checks.{firstMet};
 ghost use Rattle.house.specs.Commands.{claim};
 ghost use Rattle.house.specs.Balance.{Reached};
 ghost use Rattle.house.specs.View.{ticketFrom, view};

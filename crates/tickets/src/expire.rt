@@ -9,7 +9,7 @@ ghost use mathlib.Core.Bool.{_&&_};
 ghost use mathlib.Core.List.{List, map};
 ghost use Prim.Native.Nat.{ℕ, _+_, _-_, _^_, _≤_, _<_, max};
 ghost use lib.Dec.{ltb, eqb};
-ghost use Rattle.rules.specs.Lists.{sum};
+ghost use Rattle.sale.specs.Lists.{sum};
 ghost use Rattle.house.specs.Model.{Model};
 ghost use Rattle.house.specs.Commands.{isExpired, expire};
 ghost use Rattle.house.specs.Balance.{Reached};

@@ -7,7 +7,7 @@ ghost use Prim.Native.Nat.{ℕ};
 ghost use Rattle.house.specs.View.{view, placeOf};
 ghost use Rattle.house.specs.Parts.{ComesWith};
 ghost use Rattle.house.specs.Commands.{lookupRows};
-ghost use Rattle.rules.specs.Checks.{firstMet};
+ghost use Rattle.sale.specs.Checks.{firstMet};
 
 // The refusal, or 0 and the ticket's place among the live ones.
 pub struct Lookup {

@@ -7,8 +7,8 @@ use lib.Dec.{ltb, leb, eqb}
 use lib.ListN.{getD}
 use borrow.Author.Needs.{needs}
 use borrow.Author.Tests.{lt-ltb, le-ltb, lt-leb, le-leb, eq-eqb, ne-eqb}
-use Rattle.rules.specs.Lists.{below, member}
-use Rattle.rules.specs.Checks.{firstMet}
+use Rattle.sale.specs.Lists.{below, member}
+use Rattle.sale.specs.Checks.{firstMet}
 use Rattle.house.specs.Model.{gameLimit}
 use Rattle.house.specs.Commands.{ball, rowsOf, codeOf}
 use Rattle.house.specs.View.{view}

@@ -5,8 +5,8 @@ use mathlib.Core.Path.{_≡_, sym, ap, _∙_, subst}
 use mathlib.Core.Bool.{false}
 use mathlib.Core.List.{map}
 use lib.ListN.{getD}
-use Rattle.rules.specs.Lists.{below, any, member}
-use Rattle.draw.proofs.ClosingLaws.{table-more}
+use Rattle.sale.specs.Lists.{below, any, member}
+use Rattle.settlement.proofs.TablePlaces.{table-more}
 use Rattle.draw.proofs.BallLaws.{member-later, member-table}
 use Rattle.draw.proofs.ball.is_in.Statement.{statement}
 use Rattle.draw.proofs.ball.is_in.Tie as tie

@@ -1,26 +1,22 @@
--- `draw::settle::settle_game` meets its contract: the tables hold first the prizes, then the shares with them, which are the game's awards; and
--- every figure fits, since the house after the game is reached too.
-use Prim.Native.Nat.{ℕ, _+_, _≤_, _<_, _^_}
+-- `draw::settle::settle_game` meets its contract: the awards of the settlement end the game, and every figure fits, since the house after it is
+-- reached too.
+use Prim.Native.Nat.{ℕ, _+_, _<_, _^_}
 use native.Mathlib.Omega.{arith}
 use mathlib.Core.Path.{_≡_, sym, ap, ap₂, _∙_, subst}
-use mathlib.Core.Logic.{inl, inr}
-use mathlib.Core.List.{List, zipWith}
-use lib.ListN.{length, take}
+use mathlib.Core.List.{List}
+use lib.ListN.{take}
 use borrow.Author.Needs.{needs}
-use Rattle.rules.specs.Lists.{sum}
-use Rattle.rules.specs.declared.terms.Draw.{Draw}
+use Rattle.prizes.specs.declared.draw.Draw.{Draw}
 use Rattle.house.specs.Tickets.{Ticket}
-use Rattle.house.specs.Model.{Model}
-use Rattle.house.specs.Commands.{ball, ballsWith, replies, settlement}
+use Rattle.house.specs.Model.{Model, Counters}
+use Rattle.house.specs.Commands.{ball, replies, settledBy, settlement, gameEnded}
 use Rattle.house.specs.View.{view}
-use Rattle.draw.specs.Settling.{spread, fullIn, Prized, SharedOut}
-use Rattle.draw.specs.Sharing.{stakesOf}
-use Rattle.draw.specs.declared.figures.GameFigures.{GameFigures}
+use Rattle.settlement.specs.Settling.{SettledAs}
+use Rattle.settlement.proofs.GameLaws.{awards-fit}
 use Rattle.house.proofs.ReachedHouses.{Sure, reached-sure}
-use Rattle.house.proofs.ViewLaws.{carried-done, balls-count, live-count}
-use Rattle.draw.proofs.ClosingLaws.{spread-fills}
-use Rattle.draw.proofs.SharingLaws.{entered}
-use Rattle.draw.proofs.BallLaws.{last-act, each-live, paid-view, lastDraw, prizesLast, sixLast, prizes-count, with-six-count, parted, Fitting, fitting, prizes-total, prizes-fit, six-fit, awards-fit, whole-draw, matches-by, GameFound, found-by, settled-view}
+use Rattle.house.proofs.ViewLaws.{carried-done, live-count}
+use Rattle.draw.specs.Closing.{Draws}
+use Rattle.draw.proofs.BallLaws.{last-act, each-live, lastDraw, Fitting, fitting, settled-reply, settled-view}
 use Rattle.draw.proofs.settle.settle_game.Statement.{statement}
 use Rattle.draw.proofs.settle.settle_game.Tie as tie
 
@@ -28,266 +24,117 @@ abbrev model : tie.Start → Model
 model s = view (s .args .house) (s .args .rows .now) (s .args .marks .now)
 
 sure : (s : tie.Start) → Sure (model s)
-sure s = reached-sure (model s) (s .pre .0)
+sure s = reached-sure (model s) (s .pre .reached)
 
-count : (s : tie.Start) → length (model s .live) ≡ s .args .house .live
-count s = live-count (s .args .house) (s .args .rows .now) (s .args .marks .now)
+-- the draw is the last ball's
+own-draw : (s : tie.Start) → s .args .draw ≡ lastDraw (model s) (s .pre .number)
+own-draw s = s .pre .drawn .draw′
 
-few : (s : tie.Start) → s .args .house .live ≤ 200
-few s = omega (arith, sure s .few, count s)
+fit : (s : tie.Start) → Fitting (model s) (s .pre .number)
+fit s = fitting (model s) (s .pre .number) (s .pre .reached) (s .pre .drawn .accepted) (s .pre .drawn .last)
 
-nineteen : (s : tie.Start) → length (model s .balls) ≡ 19
-nineteen s = balls-count (s .args .house) (s .args .rows .now) (s .args .marks .now) ∙ s .pre .1 .1
+room : (s : tie.Start) → settledBy (s .args .draw) (model s) .prizes + settledBy (s .args .draw) (model s) .shares < 2 ^ 62
+room s = subst (λ (d : Draw). settledBy d (model s) .prizes + settledBy d (model s) .shares < 2 ^ 62) (sym (own-draw s)) (fit s .awards)
 
-fit : (s : tie.Start) → Fitting (model s) (s .args .number)
-fit s = fitting (model s) (s .args .number) (s .pre .0) (s .pre .1 .0) (nineteen s)
+settle-requires : tie.Need-settle-requires
+settle-requires c κs = let s = c .before .before .before in record { reached = s .pre .reached; room = room s }
 
--- ---- the prizes
+-- ---- the settlement
 
-abbrev startOf : tie.After-find-prizes → tie.Start
-startOf c = c .before .before .before .before .before .before
+abbrev startOf : tie.After-settle → tie.Start
+startOf c = c .before .before .before .before
 
-abbrev prizeTable : tie.After-find-prizes → List ℕ
-prizeTable c = c .find-prizes .last .1 .1 .1 .1 .0
+abbrev awards : tie.After-settle → List ℕ
+awards c = c .settle .last .1 .1 .1 .1 .0
 
-abbrev matchTable : tie.After-find-prizes → List ℕ
-matchTable c = c .find-prizes .last .1 .1 .1 .1 .1 .0
+-- by any ball that completes the draw
+settled-by : (c : tie.After-settle) (b : ℕ) → Draws (model (startOf c)) b (startOf c .args .draw)
+    → SettledAs (model (startOf c)) (lastDraw (model (startOf c)) b) (awards c) (c .settle .result)
+settled-by c b d = subst (λ (w : Draw). SettledAs (model (startOf c)) w (awards c) (c .settle .result)) (d .draw′) (c .settle .ensures)
 
-prized : (c : tie.After-find-prizes) → Prized (model (startOf c)) (lastDraw (model (startOf c)) (startOf c .args .number)) (prizeTable c) (matchTable c)
-prized c =
-    let s = startOf c in
-    let made = c .before .before .before .before .before .balls-with in
-    subst (λ (d : Draw). Prized (model s) d (prizeTable c) (matchTable c))
-    (whole-draw (made .result) (ballsWith (s .args .number) (model s)) (s .args .house .drawn) (made .ensures .0) (s .pre .1 .1) (made .ensures .1 (s .args .rows .now) (s .args .marks .now)))
-    (c .find-prizes .ensures)
+settled : (c : tie.After-settle) → SettledAs (model (startOf c)) (lastDraw (model (startOf c)) (startOf c .pre .number)) (awards c) (c .settle .result)
+settled c = settled-by c (startOf c .pre .number) (startOf c .pre .drawn)
 
-abbrev drawOf : tie.Start → Draw
-drawOf s = lastDraw (model s) (s .args .number)
+add-cents : tie.Need-add-cents
+add-cents c =
+    let found = c .before .before .before .before in
+    omega (arith, fit (startOf found) .awards, settled found .shares)
 
-matches : (c : tie.After-find-prizes)
-    → take (startOf c .args .house .live) (matchTable c)
-    ≡ spread (startOf c .args .house .game) (fullIn (startOf c .args .house .game) (drawOf (startOf c)) (model (startOf c) .live)) (model (startOf c) .live)
-matches c =
-    let s = startOf c in
-    matches-by (s .args .house) (s .args .rows .now) (s .args .marks .now) (drawOf s) (prizeTable c) (matchTable c) (prized c)
+add-cents-2 : tie.Need-add-cents-2
+add-cents-2 c =
+    let found = c .before .before .before .before .before in
+    omega (arith, fit (startOf found) .awards, settled found .shares, settled found .prizes)
 
-balls-with-requires : tie.Need-balls-with-requires
-balls-with-requires c κs = search needs
+-- ---- the end of the game
 
-find-prizes-requires : tie.Need-find-prizes-requires
-find-prizes-requires c κs = search needs
-
--- the sum of the table is that of the prizes
-total : (c : tie.After-find-prizes) → sum (take (startOf c .args .house .live) (prizeTable c)) ≡ settlement (startOf c .args .number) (model (startOf c)) .prizes
-total c =
-    let s = startOf c in
-    ap (λ n. sum (take n (prizeTable c))) (sym (count s))
-    ∙ prizes-total (model s) (s .args .number) (fit s) (prizeTable c) (prized c .prizes)
-
-find-figures-requires : tie.Need-find-figures-requires
-find-figures-requires c κs =
-    let found = c .before .before .before in
-    let s = startOf found in (
-      entered (s .args .house) (s .args .rows .now) (matchTable found) (s .args .marks .now) (drawOf s) (s .pre .0) (matches found),
-      (
-        omega (arith, count s, spread-fills _ (prizeTable found) _ (model s .live) (prized found .prizes)),
-        omega (arith, total found, fit s .lost),
-      ),
-    )
-
--- ---- the shares
-
-abbrev foundFor : tie.After-find-figures → tie.After-find-prizes
-foundFor c = c .before .before .before .before
-
--- the stakes found are those of the jackpots for 6 and 8
-number-six : (c : tie.After-find-figures) → c .find-figures .result .six .jackpot ≡ 6
-number-six c = ap (λ (f : GameFigures). f .six .jackpot) (c .find-figures .ensures)
-
-number-eight : (c : tie.After-find-figures) → c .find-figures .result .eight .jackpot ≡ 8
-number-eight c = ap (λ (f : GameFigures). f .eight .jackpot) (c .find-figures .ensures)
-
-settle-jackpot-requires : tie.Need-settle-jackpot-requires
+end-game-requires : tie.Need-end-game-requires
 unfolding view
-settle-jackpot-requires c κs =
-    let figured = c .before .before .before in
-    let found = foundFor figured in
+end-game-requires c κs =
+    let found = c .before .before .before .before .before .before .before .before in
     let s = startOf found in
-    let pools = sure s .fit .six in (
-      inl (number-six figured),
-      (
-        record { marks = s .args .marks .now; draw = drawOf s; reached = s .pre .0; matches = matches found },
-        (
-          ap (λ (f : GameFigures). f .six) (figured .find-figures .ensures)
-              ∙ ap (λ j. stakesOf (s .args .rows .now) (matchTable found) (s .args .house .game) j (s .args .house .live)) (sym (number-six figured)),
-          (
-            (pools .primary, pools .secondary, pools .reimbursement, pools .debt),
-            λ i b. omega (arith, prizes-fit (model s) (s .args .number) (fit s) (prizeTable found) (prized found .prizes) i (omega (arith, count s))),
-          ),
-        ),
-      ),
-    )
+    let count = live-count (s .args .house) (s .args .rows .now) (s .args .marks .now) in
+    let dues = each-live (s .args .house) (s .args .rows .now) (s .args .marks .now) (λ (t : Ticket). t .due < 2 ^ 62) (sure s .dues) in
+    record {
+      few = omega (arith, sure s .few, count);
+      game = omega (arith, sure s .game);
+      room = λ i b. omega (arith, dues i b, awards-fit (model s) (s .args .draw) (awards found) (room s) i (omega (arith, count)) (found .settle .ensures .awards));
+    }
 
-abbrev figuredBefore : tie.After-settle-jackpot → tie.After-find-figures
-figuredBefore c = c .before .before .before .before
+abbrev foundBefore : tie.After-end-game → tie.After-settle
+foundBefore c = c .before .before .before .before .before .before .before .before .before
 
-abbrev foundBefore : tie.After-settle-jackpot → tie.After-find-prizes
-foundBefore c = foundFor (figuredBefore c)
-
-abbrev sixTable : tie.After-settle-jackpot → List ℕ
-sixTable c = c .settle-jackpot .last .1 .1 .1 .1 .1 .0
-
-shared-six : (c : tie.After-settle-jackpot)
-    → SharedOut (model (startOf (foundBefore c))) 6 (lastDraw (model (startOf (foundBefore c))) (startOf (foundBefore c) .args .number)) (model (startOf (foundBefore c)) .six) (prizeTable (foundBefore c)) (sixTable c) (c .settle-jackpot .result)
-unfolding view
-shared-six c =
-    let s = startOf (foundBefore c) in
-    subst (λ j. SharedOut (model s) j (drawOf s) (model s .six) (prizeTable (foundBefore c)) (sixTable c) (c .settle-jackpot .result)) (number-six (figuredBefore c))
-    (c .settle-jackpot .ensures (s .args .marks .now) (drawOf s) (s .pre .0) (matches (foundBefore c)))
-
-held-six : (c : tie.After-settle-jackpot)
-    → take (length (model (startOf (foundBefore c)) .live)) (sixTable c)
-    ≡ spread (model (startOf (foundBefore c)) .game)
-    (zipWith _+_ (prizesLast (model (startOf (foundBefore c))) (startOf (foundBefore c) .args .number)) (sixLast (model (startOf (foundBefore c))) (startOf (foundBefore c) .args .number)))
-    (model (startOf (foundBefore c)) .live)
-held-six c =
-    let s = startOf (foundBefore c) in
-    shared-six c .joined (prizesLast (model s) (s .args .number)) (prizes-count (model s) (s .args .number)) (prized (foundBefore c) .prizes)
-
-settle-jackpot-requires-2 : tie.Need-settle-jackpot-requires-2
-unfolding view
-settle-jackpot-requires-2 c κs =
-    let six = c .before .before .before in
-    let found = foundBefore six in
+-- the house that the awards leave
+ended : (c : tie.After-end-game) (b : ℕ) → Draws (model (startOf (foundBefore c))) b (startOf (foundBefore c) .args .draw)
+    → view (c .end-game .result) (c .end-game .last .1 .0) (c .end-game .last .1 .1 .0)
+    ≡ gameEnded (settlement b (model (startOf (foundBefore c))) .awards) (model (startOf (foundBefore c)))
+unfolding settlement view
+ended c b d =
+    let found = foundBefore c in
     let s = startOf found in
-    let pools = sure s .fit .eight in
-    let figured = figuredBefore six in (
-      inr (number-eight figured),
-      (
-        record { marks = s .args .marks .now; draw = drawOf s; reached = s .pre .0; matches = matches found },
-        (
-          ap (λ (f : GameFigures). f .eight) (figured .find-figures .ensures)
-              ∙ ap (λ j. stakesOf (s .args .rows .now) (matchTable found) (s .args .house .game) j (s .args .house .live)) (sym (number-eight figured)),
-          (
-            (pools .primary, pools .secondary, pools .reimbursement, pools .debt),
-            λ i b. omega (arith, six-fit (model s) (s .args .number) (fit s) (sixTable six) (held-six six) i (omega (arith, count s))),
-          ),
-        ),
-      ),
-    )
+    c .end-game .ensures (settlement b (model s) .awards)
+    (ap (λ n. take n (awards found)) (sym (live-count (s .args .house) (s .args .rows .now) (s .args .marks .now))) ∙ settled-by found b d .awards)
 
-abbrev sixBefore : tie.After-settle-jackpot2 → tie.After-settle-jackpot
-sixBefore c = c .before .before .before .before
-
-abbrev begun : tie.After-settle-jackpot2 → tie.Start
-begun c = startOf (foundBefore (sixBefore c))
-
-abbrev awardTable : tie.After-settle-jackpot2 → List ℕ
-awardTable c = c .settle-jackpot2 .last .1 .1 .1 .1 .1 .0
-
-abbrev figures : tie.After-settle-jackpot2 → GameFigures
-figures c = figuredBefore (sixBefore c) .find-figures .result
-
-shared-eight : (c : tie.After-settle-jackpot2)
-    → SharedOut (model (begun c)) 8 (lastDraw (model (begun c)) (begun c .args .number)) (model (begun c) .eight) (sixTable (sixBefore c)) (awardTable c) (c .settle-jackpot2 .result)
+with-settlement-requires : tie.Need-with-settlement-requires
 unfolding view
-shared-eight c =
-    let s = begun c in
-    subst (λ j. SharedOut (model s) j (drawOf s) (model s .eight) (sixTable (sixBefore c)) (awardTable c) (c .settle-jackpot2 .result)) (number-eight (figuredBefore (sixBefore c)))
-    (c .settle-jackpot2 .ensures (s .args .marks .now) (drawOf s) (s .pre .0) (matches (foundBefore (sixBefore c))))
-
-held : (c : tie.After-settle-jackpot2)
-    → take (length (model (begun c) .live)) (awardTable c)
-    ≡ spread (model (begun c) .game) (settlement (begun c .args .number) (model (begun c)) .awards) (model (begun c) .live)
-held c =
-    let s = begun c in
-    let m = model s in
-    let b = s .args .number in
-    shared-eight c .joined (zipWith _+_ (prizesLast m b) (sixLast m b)) (with-six-count m b) (held-six (sixBefore c))
-    ∙ ap (λ (figures : List ℕ). spread (m .game) figures (m .live)) (sym (parted m b .awards))
-
--- ---- the tickets and the house
-
-close-tickets-requires : tie.Need-close-tickets-requires
-unfolding view
-close-tickets-requires c κs =
-    let eight = c .before .before .before in
-    let s = begun eight in
-    let dues = each-live (s .args .house) (s .args .rows .now) (s .args .marks .now) (λ (t : Ticket). t .due < 2 ^ 62) (sure s .dues) in (
-      few s,
-      omega (arith, sure s .game),
-      λ i b. omega (arith, dues i b, awards-fit (model s) (s .args .number) (fit s) (awardTable eight) (held eight) i (omega (arith, count s))),
-    )
-
-found : (c : tie.After-settle-jackpot2)
-    → GameFound (model (begun c)) (begun c .args .number) (figures c .prizes) (figures c .stakes) (sixBefore c .settle-jackpot .result) (c .settle-jackpot2 .result)
-found c =
-    let s = begun c in
-    let told = figuredBefore (sixBefore c) .find-figures .ensures in
-    found-by (model s) (s .args .number) (figures c .prizes) (figures c .stakes) (sixBefore c .settle-jackpot .result) (c .settle-jackpot2 .result)
-    (prizeTable (foundBefore (sixBefore c))) (sixTable (sixBefore c)) (awardTable c)
-    (ap (λ (f : GameFigures). f .prizes) told ∙ total (foundBefore (sixBefore c)))
-    (ap (λ (f : GameFigures). f .stakes) told ∙ paid-view (s .args .house) (s .args .rows .now) (s .args .marks .now))
-    (shared-six (sixBefore c)) (shared-eight c)
-
-next-game-requires : tie.Need-next-game-requires
-unfolding view
-next-game-requires c κs =
-    let eight = c .before .before .before .before in
-    let s = begun eight in
-    let f = found eight in
-    let room = fit s in (
-      omega (arith, sure s .game),
-      omega (arith, room .seeds, f .seeds),
-      omega (arith, room .gained, f .stakes, f .repaid),
-      omega (arith, room .lost, f .contributions, f .prizes),
-    )
-
-add-accepted : tie.Need-add-accepted
-add-accepted c =
-    let eight = c .before .before .before .before .before .before .before in
-    omega (arith, fit (begun eight) .owed, found eight .shares)
-
-add-accepted-2 : tie.Need-add-accepted-2
-add-accepted-2 c =
-    let eight = c .before .before .before .before .before .before .before .before in
-    omega (arith, fit (begun eight) .owed, found eight .shares, found eight .prizes)
+with-settlement-requires c κs =
+    let found = foundBefore c in
+    let s = startOf found in
+    let f = settled found in
+    let room = fit s in
+    let same = ap (λ (m : Model). m .counters) (ended c (s .pre .number) (s .pre .drawn)) in
+    record {
+      seeds = omega (arith, room .seeds, f .seeds, ap (λ (k : Counters). k .seeds) same);
+      gained = omega (arith, room .gained, f .stakes, f .repaid, ap (λ (k : Counters). k .gained) same);
+      lost = omega (arith, room .lost, f .contributions, f .prizes, ap (λ (k : Counters). k .lost) same);
+    }
 
 accepted-requires : tie.Need-accepted-requires
 accepted-requires c κs = search needs
 
 returns : tie.Need-returns
-unfolding view
-returns c =
-    let made = c .before .before .before .before in
-    let closed = made .before in
-    let eight = closed .before .before .before .before in
-    let s = begun eight in
+returns c = λ b d.
+    let over = c .before .before in
+    let found = foundBefore over in
+    let s = startOf found in
     let args = s .args in
-    let f = found eight in
-    let last = last-act (model s) (args .number) (nineteen s) in
-    let rows = closed .close-tickets .last .1 .0 in
-    let marks = closed .close-tickets .last .1 .1 .0 in
-    let stay = closed .close-tickets .ensures .1 (settlement (args .number) (model s) .awards) (ap (λ n. take n (awardTable eight)) (sym (count s)) ∙ held eight) in
-    carried-done (args .house) (args .rows .now) (args .marks .now) (ball (args .number)) _ rows marks _ (s .pre .1 .0)
-    (ap (λ h. view h rows marks) (c .accepted .ensures .0 ∙ made .next-game .ensures)
-    ∙ settled-view (args .house) (args .rows .now) (args .marks .now) rows marks (args .number) (closed .close-tickets .result) (figures eight .prizes) (figures eight .stakes) (sixBefore eight .settle-jackpot .result) (eight .settle-jackpot2 .result)
-    (omega (arith, closed .close-tickets .ensures .0, few s)) stay f
+    let f = settled-by found b d in
+    let last = last-act (model s) b (d .last) in
+    let rows = over .end-game .last .1 .0 in
+    let marks = over .end-game .last .1 .1 .0 in
+    carried-done (args .house) (args .rows .now) (args .marks .now) (ball b) _ rows marks _ (d .accepted)
+    (ap (λ h. view h rows marks) (c .accepted .ensures .0 ∙ c .before .with-settlement .ensures)
+    ∙ settled-view (args .house) (over .end-game .result) (args .rows .now) (args .marks .now) rows marks b (awards found) (found .settle .result) f (ended over b d)
     ∙ sym (last .0))
-    (c .accepted .ensures .1 ∙ ap₂ (λ (p q : ℕ). replies 20 (p + q)) (f .prizes) (f .shares) ∙ sym (last .1))
+    (c .accepted .ensures .1 ∙ ap₂ (λ (p q : ℕ). replies 20 (p + q)) (f .prizes) (f .shares) ∙ sym (settled-reply (model s) b) ∙ sym (last .1))
 
 pub settle-game-spec : {M : Type 1} → statement M
 settle-game-spec =
     tie.close
     (tie.spec
-    balls-with-requires
-    find-prizes-requires
-    find-figures-requires
-    settle-jackpot-requires
-    settle-jackpot-requires-2
-    close-tickets-requires
-    next-game-requires
-    add-accepted
-    add-accepted-2
+    settle-requires
+    add-cents
+    add-cents-2
+    end-game-requires
+    with-settlement-requires
     accepted-requires
     returns)

@@ -4,7 +4,7 @@ use mathlib.Core.Bool.{true, false, not}
 use lib.Dec.{eqb}
 use borrow.Author.Needs.{needs}
 use borrow.Author.Tests.{lt-ltb, le-ltb, le-leb, lt-leb}
-use Rattle.rules.specs.Checks.{firstMet}
+use Rattle.sale.specs.Checks.{firstMet}
 use Rattle.house.specs.Tickets.{kenoToGoBegun}
 use Rattle.house.specs.View.{ticketFrom}
 use Rattle.tickets.proofs.cancel.cancel_code.Statement.{statement}

@@ -8,8 +8,8 @@ use mathlib.Core.List.{List}
 use lib.Dec.{eqb}
 use lib.ListN.{take}
 use borrow.Author.Needs.{needs}
-use Rattle.rules.specs.Price.{chargeLimit}
-use Rattle.rules.specs.Checks.{firstMet}
+use Rattle.sale.specs.Price.{chargeLimit}
+use Rattle.sale.specs.Checks.{firstMet}
 use Rattle.house.specs.Tickets.{Ticket, paidStakes, withStop}
 use Rattle.house.specs.Commands.{changed, stillLive, finishedOn, lookupRows, cancelStop, cancelledTicket, cancel, rowsOf, codeOf, refundOf, cancelled, act, reply}
 use Rattle.house.specs.Till.{tillOf}

@@ -2,7 +2,7 @@
 use Prim.Native.Nat.{_-_}
 use mathlib.Core.Path.{ap₂, _∙_}
 use borrow.Author.Needs.{needs}
-use Rattle.rules.specs.Price.{charge}
+use Rattle.sale.specs.Price.{charge}
 use Rattle.house.specs.Tickets.{paidStakes}
 use Rattle.tickets.proofs.cancel.refund.Statement.{statement}
 use Rattle.tickets.proofs.cancel.refund.Tie as tie

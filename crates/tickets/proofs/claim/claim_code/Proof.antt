@@ -3,7 +3,7 @@ use mathlib.Core.Path.{sym, ap, _∙_}
 use mathlib.Core.Bool.{not}
 use borrow.Author.Needs.{needs}
 use borrow.Author.Tests.{eq-eqb, ne-eqb}
-use Rattle.rules.specs.Checks.{firstMet}
+use Rattle.sale.specs.Checks.{firstMet}
 use Rattle.house.specs.Tickets.{gamesLeft}
 use Rattle.tickets.proofs.claim.claim_code.Statement.{statement}
 use Rattle.tickets.proofs.claim.claim_code.Tie as tie

@@ -7,7 +7,7 @@ use mathlib.Core.Bool.{true, false}
 use mathlib.Core.List.{List}
 use lib.ListN.{take}
 use borrow.Author.Needs.{needs}
-use Rattle.rules.specs.Checks.{firstMet}
+use Rattle.sale.specs.Checks.{firstMet}
 use Rattle.house.specs.Tickets.{Ticket, gamesLeft, isFinished, isLive, withDue}
 use Rattle.house.specs.Commands.{ticketAt, changed, stillLive, lookupRows, claim, rowsOf, codeOf, claimed, act, reply}
 use Rattle.house.specs.Till.{tillOf}

@@ -5,7 +5,7 @@ use mathlib.Core.List.{List, map}
 use native.Mathlib.Omega.{arith}
 use lib.ListN.{length, getD, take}
 use borrow.Author.Needs.{needs}
-use Rattle.rules.specs.Lists.{sum}
+use Rattle.sale.specs.Lists.{sum}
 use Rattle.house.specs.Tickets.{Ticket}
 use Rattle.house.specs.Commands.{blankTicket, isExpired}
 use Rattle.house.specs.View.{ticketIn, ticketsOf}

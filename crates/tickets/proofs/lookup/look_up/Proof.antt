@@ -8,7 +8,7 @@ use lib.Dec.{ltb, eqb}
 use lib.ListN.{take}
 use borrow.Author.Needs.{needs}
 use borrow.Author.Tests.{lt-ltb, le-ltb, eq-eqb, ne-eqb}
-use Rattle.rules.specs.Checks.{firstMet}
+use Rattle.sale.specs.Checks.{firstMet}
 use Rattle.house.specs.Commands.{hasTicket, lookupRows}
 use Rattle.house.specs.View.{ticketsOf, placeOf, RisingRows, view}
 use Rattle.house.specs.declared.state.House.{House}

@@ -4,7 +4,7 @@ use Prim.Native.Nat.{_+_, _<_}
 use native.Mathlib.Omega.{arith}
 use mathlib.Core.Path.{_≡_, refl, sym, ap, _∙_}
 use borrow.Author.Needs.{needs}
-use Rattle.rules.specs.Checks.{Operands}
+use Rattle.sale.specs.Checks.{Operands}
 use Rattle.house.specs.Model.{Model, liveLimit}
 use Rattle.house.specs.Commands.{sell, codeOf, act, reply, replies}
 use Rattle.house.specs.Till.{tillOf}

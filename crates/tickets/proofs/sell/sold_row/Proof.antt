@@ -3,8 +3,8 @@ use native.Mathlib.Omega.{arith}
 use mathlib.Core.Path.{_≡_, ap, _∙_}
 use mathlib.Core.List.{[]}
 use borrow.Author.Needs.{needs}
-use Rattle.rules.specs.Checks.{Operands}
-use Rattle.rules.specs.declared.check.Quote.{Quote}
+use Rattle.sale.specs.Checks.{Operands}
+use Rattle.sale.specs.declared.check.Quote.{Quote}
 use Rattle.house.specs.View.{view}
 use Rattle.tickets.proofs.SellLaws.{told, quoted, next-within, ticket-sold}
 use Rattle.tickets.proofs.sell.sold_row.Statement.{statement}

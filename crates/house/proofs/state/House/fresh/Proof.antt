@@ -1,5 +1,5 @@
 -- `house::state::House::fresh` meets its contract: no ticket and no ball is taken from the buffers, and the jackpots are as rules make them.
-use Rattle.rules.specs.Lists.{below}
+use Rattle.sale.specs.Lists.{below}
 use Rattle.house.specs.View.{view}
 use borrow.Author.Needs.{needs}
 use Rattle.house.proofs.state.House.fresh.Statement.{statement}

@@ -1,0 +1,152 @@
+-- `draw::game_end::close_ticket` meets its contract: a ticket that stays is stored at its new place, with the marks that it had.
+use Prim.Native.Nat.{_+_, _<_}
+use native.Mathlib.Omega.{arith}
+use mathlib.Core.Path.{_≡_, refl, sym, ap, _∙_}
+use mathlib.Core.Bool.{not}
+use mathlib.Core.List.{List, [], _∷_, _++_}
+use lib.ListN.{length, take, drop, set, getD}
+use lib.Seq.{set-set}
+use Rattle.house.specs.Tickets.{Ticket, isLive}
+use Rattle.house.specs.Commands.{blankTicket, stillLive}
+use Rattle.draw.specs.Closing.{paidTicket}
+use Rattle.house.specs.View.{marksAt, ticketFrom, ticketIn, ticketsOf}
+use Rattle.house.specs.declared.rows.Row.{Row}
+use Rattle.house.proofs.RowLaws.{tickets-at, tickets-length}
+use Rattle.draw.proofs.ClosingLaws.{closed-stays, live-stays, rest-stays, moved-ticket}
+use borrow.Author.Needs.{needs}
+use Rattle.draw.proofs.game_end.close_ticket.Statement.{statement}
+use Rattle.draw.proofs.game_end.close_ticket.Tie as tie
+
+abbrev tickets : tie.Start → List Ticket
+tickets s = ticketsOf (s .args .rows .now) (s .args .marks .now)
+
+abbrev ticket : tie.Start → Ticket
+ticket s = ticketIn (s .args .rows .now) (s .args .marks .now) (s .args .i)
+
+abbrev paid : tie.Start → Ticket
+paid s = paidTicket (s .args .day) (s .args .game) (s .args .cents) (ticket s)
+
+long : (s : tie.Start) → s .args .i < length (tickets s)
+long s = omega (arith, tickets-length (s .args .rows .now) (s .args .marks .now), s .pre)
+
+abbrev startOf : tie.After-is-closed → tie.Start
+startOf c = c .before .before
+
+live-here : (c : tie.After-is-closed) → isLive (startOf c .args .game) (paid (startOf c)) ≡ not (c .is-closed .result)
+live-here c = c .is-closed .ensures (startOf c .args .day) (startOf c .args .marks .now)
+
+abbrev begun : tie.After-move-ticket → tie.Start
+begun c = startOf (c .before .before .before .before)
+
+-- the ticket at its new place, before it is paid
+here : (c : tie.After-move-ticket) → ticketIn (c .move-ticket .last .0) (c .move-ticket .last .1 .0) (begun c .args .left) ≡ ticket (begun c)
+here c =
+    let s = begun c in
+    moved-ticket (s .args .rows .now) (s .args .marks .now) (c .move-ticket .last .0) (c .move-ticket .last .1 .0) (s .args .i) (s .args .left) (s .pre .1) (omega (arith, s .pre)) (c .move-ticket .ensures)
+
+-- and once it is
+stays : (c : tie.After-move-ticket) →
+    let s = begun c in
+    take (s .args .left + 1) (set (tickets s) (s .args .left) (paid s)) ≡ take (s .args .left) (tickets s) ++ stillLive (s .args .game) (paid s ∷ [])
+stays c =
+    let s = begun c in
+    let passed = c .before .before .before in
+    live-stays (tickets s) (s .args .left) (s .args .i) (s .pre .0) (long s) (s .args .game) (paid s) (live-here (passed .before) ∙ ap not (passed .if1 .left))
+
+is-closed-requires : tie.Need-is-closed-requires
+is-closed-requires c κs = search needs
+
+returns : tie.Need-returns
+returns c =
+    let s = startOf (c .before) in
+    let args = s .args in (
+      omega arith,
+      (
+        closed-stays (tickets s) (args .left) (args .i) (s .pre .0) (long s) (args .game) (paid s) (live-here (c .before) ∙ ap not (c .if1 .taken)),
+        refl,
+      ),
+    )
+
+move-ticket-requires : tie.Need-move-ticket-requires
+move-ticket-requires c κs = search needs
+
+is-same-requires : tie.Need-is-same-requires
+is-same-requires c κs = search needs
+
+add-result : tie.Need-add-result
+add-result c = search needs
+
+returns-2 : tie.Need-returns-2
+returns-2 c =
+    let moved = c .before .before .before in
+    let s = begun moved in
+    let args = s .args in
+    let same : paid s ≡ ticket s =
+    ap (paidTicket (args .day) (args .game) (args .cents)) (sym (here moved))
+    ∙ c .before .is-same .ensures (c .if2 .taken) (args .day) (moved .move-ticket .last .1 .0)
+    ∙ here moved in (
+      omega arith,
+      (
+        ap (take (args .left + 1)) (moved .move-ticket .ensures ∙ ap (set (tickets s) (args .left)) (tickets-at (args .rows .now) (args .marks .now) (args .i) (s .pre .1) ∙ sym same))
+            ∙ stays moved,
+        ap (drop (args .i + 1)) (moved .move-ticket .ensures)
+            ∙ rest-stays (tickets s) (args .left) (args .i) (s .pre .0) (long s) (args .game) (getD (tickets s) (args .i) blankTicket),
+      ),
+    )
+
+read-row-requires : tie.Need-read-row-requires
+read-row-requires c κs = search needs
+
+paid-row-requires : tie.Need-paid-row-requires
+paid-row-requires c κs =
+    let moved = c .before .before .before .before .before .before in
+    omega (
+      arith,
+      begun moved .pre,
+      ap (λ (r : Row). r .due) (c .before .read-row .ensures),
+      ap (λ (t : Ticket). t .due) (here moved),
+    )
+
+change-ticket-requires : tie.Need-change-ticket-requires
+change-ticket-requires c κs = search needs
+
+add-result-2 : tie.Need-add-result-2
+add-result-2 c = omega (arith, begun (c .before .before .before .before .before .before .before .before) .pre)
+
+returns-3 : tie.Need-returns-3
+returns-3 c =
+    let moved = c .before .before .before .before .before .before .before .before in
+    let s = begun moved in
+    let args = s .args in
+    let marks = moved .move-ticket .last .1 .0 in
+    let own = marksAt marks (args .left) in
+    let stored =
+    c .change-ticket .ensures marks
+    ∙ ap (λ (ts : List Ticket). set ts (args .left) (ticketFrom (c .before .paid-row .result) own)) (moved .move-ticket .ensures)
+    ∙ set-set (tickets s) (args .left) _ _
+    ∙ ap (set (tickets s) (args .left))
+    (c .before .paid-row .ensures own
+    ∙ ap (λ (r : Row). paidTicket (args .day) (args .game) (args .cents) (ticketFrom r own)) (c .before .before .before .read-row .ensures)
+    ∙ ap (paidTicket (args .day) (args .game) (args .cents)) (here moved)) in (
+      omega arith,
+      (
+        ap (take (args .left + 1)) stored ∙ stays moved,
+        ap (drop (args .i + 1)) stored ∙ rest-stays (tickets s) (args .left) (args .i) (s .pre .0) (long s) (args .game) (paid s),
+      ),
+    )
+
+pub close-ticket-spec : {M : Type 1} → statement M
+close-ticket-spec =
+    tie.close
+    (tie.spec
+    is-closed-requires
+    returns
+    move-ticket-requires
+    is-same-requires
+    add-result
+    returns-2
+    read-row-requires
+    paid-row-requires
+    change-ticket-requires
+    add-result-2
+    returns-3)

@@ -1,0 +1,139 @@
+// The end of a game, drawn or not: each ticket that ran in it is due what the game awards it, one with no game left gets its finishing day, one with
+// nothing due then closes, and the next game is current.
+use house::rows::Row;
+use house::rows::change_ticket;
+use house::rows::is_finished;
+use house::rows::move_ticket;
+use house::rows::read_row;
+use house::state::House;
+ghost use mathlib.Core.Path.{_≡_};
+ghost use mathlib.Core.Bool.{true, not};
+ghost use mathlib.Core.List.{List, [], _∷_, _++_};
+ghost use Prim.Native.Nat.{ℕ, _+_, _*_, _≤_, _<_, _^_};
+ghost use lib.ListN.{take, drop};
+ghost use Rattle.house.specs.Tickets.{isLive};
+ghost use Rattle.house.specs.Commands.{stillLive, ticketsAfterGame, gameEnded};
+ghost use Rattle.house.specs.View.{rowOf, ticketFrom, ticketIn, ticketsOf, view};
+ghost use Rattle.settlement.specs.Settling.{spread};
+ghost use Rattle.draw.specs.Closing.{paidTicket, Endable};
+
+// A ticket with what it is paid, and its finishing day where no game is left.
+fn paid_row(row: Row, day: u64, game: u64, cents: u64) -> Row
+    requires { ⌜ row .due + cents < 2 ^ 64 ⌝ }
+    ensures { λ r. ⌜ ((m : List ℕ) → ticketFrom r m ≡ paidTicket day game cents (ticketFrom row m)) ⌝ }
+{
+    let mut next = row;
+    next.due = row.due + cents;
+    if row.finished != 0 {
+        return next;
+    }
+    if !is_finished(game, row.first, row.stop) {
+        return next;
+    }
+    next.finished = day;
+    next
+}
+
+// Whether the ticket at a place closes with what it is paid: no game is left, and nothing is due.
+fn is_closed(rows: &[u64; 3200], i: usize, game: u64, cents: u64) -> bool
+    requires { ⌜ i < 200 ⌝ }
+    ensures { λ r. ⌜ ((day : ℕ) (m : List ℕ) → isLive game (paidTicket day game cents (ticketIn (now (rows .entry)) m i)) ≡ not r) ⌝ }
+{
+    if cents != 0 {
+        return false;
+    }
+    let at = i * 16;
+    if rows[at + 12] != 0 {
+        return false;
+    }
+    is_finished(game, rows[at + 9], rows[at + 10])
+}
+
+// Whether the ticket at a place is the same with what it is paid: nothing, and it has a game left or its finishing day already.
+fn is_same(rows: &[u64; 3200], i: usize, game: u64, cents: u64) -> bool
+    requires { ⌜ i < 200 ⌝ }
+    ensures { λ r. ⌜ (r ≡ true → (day : ℕ) (m : List ℕ) → paidTicket day game cents (ticketIn (now (rows .entry)) m i) ≡ ticketIn (now (rows .entry)) m i) ⌝ }
+{
+    if cents != 0 {
+        return false;
+    }
+    let at = i * 16;
+    if rows[at + 13] != 0 {
+        return true;
+    }
+    !is_finished(game, rows[at + 9], rows[at + 10])
+}
+
+// The ticket at a place, where the given game is current now: it closes, or stays and stands behind the `left` tickets before it that stay.
+// How many stay with it.
+fn close_ticket(
+    rows: &mut [u64; 3200],
+    marks: &mut [u8; 16000],
+    i: usize,
+    left: usize,
+    day: u64,
+    game: u64,
+    cents: u64,
+) -> usize
+    requires { ⌜ (left ≤ i) × (i < 200) × (rowOf (now rows) (i * 16) .due + cents < 2 ^ 64) ⌝ }
+    ensures count { λ r. ⌜ r ≤ left + 1 ⌝ }
+    ensures stay { λ r. ⌜ take r (ticketsOf (now (rows .exit)) (now (marks .exit))) ≡ take left (ticketsOf (now (rows .entry)) (now (marks .entry))) ++ stillLive game (paidTicket day game cents (ticketIn (now (rows .entry)) (now (marks .entry)) i) ∷ []) ⌝ }
+    ensures rest { λ r. ⌜ drop (i + 1) (ticketsOf (now (rows .exit)) (now (marks .exit))) ≡ drop (i + 1) (ticketsOf (now (rows .entry)) (now (marks .entry))) ⌝ }
+{
+    if is_closed(rows, i, game, cents) {
+        return left;
+    }
+    move_ticket(rows, marks, i, left);
+    if is_same(rows, left, game, cents) {
+        return left + 1;
+    }
+    let row = read_row(rows, left);
+    change_ticket(rows, left, paid_row(row, day, game, cents));
+    left + 1
+}
+
+// The live tickets after the game: those that stay move down. How many they are.
+fn close_tickets(
+    house: House,
+    rows: &mut [u64; 3200],
+    marks: &mut [u8; 16000],
+    awards: &[u64; 200],
+) -> usize
+    requires { ⌜ Endable house (now rows) (now awards) ⌝ }
+    ensures count { λ r. ⌜ r ≤ house .live ⌝ }
+    ensures stay { λ r. ⌜ ((figures : List ℕ)
+        → take (house .live) (now (awards .entry)) ≡ spread (house .game) figures (view house (now (rows .entry)) (now (marks .entry)) .live)
+        → take r (ticketsOf (now (rows .exit)) (now (marks .exit))) ≡ ticketsAfterGame (house .day) (house .game) figures (view house (now (rows .entry)) (now (marks .entry)) .live)) ⌝ }
+{
+    let day = house.day;
+    let game = house.game + 1;
+    let live = house.live as usize;
+    let mut left = 0;
+    let mut i = 0;
+    while i < live {
+        let now_left = close_ticket(rows, marks, i, left, day, game, awards[i]);
+        left = now_left;
+        i += 1;
+    }
+    left
+}
+
+// The house once the game is over, whatever it awards: one award at the place of each live ticket. Pools and counters are not touched.
+pub(crate) fn end_game(
+    mut house: House,
+    rows: &mut [u64; 3200],
+    marks: &mut [u8; 16000],
+    awards: &[u64; 200],
+) -> House
+    requires { ⌜ Endable house (now rows) (now awards) ⌝ }
+    ensures { λ r. ⌜ ((figures : List ℕ)
+        → take (house .live) (now (awards .entry)) ≡ spread (house .game) figures (view house (now (rows .entry)) (now (marks .entry)) .live)
+        → view r (now (rows .exit)) (now (marks .exit)) ≡ gameEnded figures (view house (now (rows .entry)) (now (marks .entry)))) ⌝ }
+{
+    let left = close_tickets(house, rows, marks, awards);
+    let game = house.game + 1;
+    house.game = game;
+    house.drawn = 0;
+    house.live = left as u64;
+    house
+}

@@ -1,0 +1,13 @@
+pub mod HitLaws
+pub mod TableLaws
+pub mod PrizeLaws
+pub mod CutSigned
+pub mod CutRounds
+pub mod CutStates
+pub mod CutPayouts
+pub mod CutPlaces
+pub mod CutFloors
+pub mod MajorLaws
+pub mod FoundLaws
+pub mod ShareLaws
+pub mod SettleLaws

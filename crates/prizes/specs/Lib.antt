@@ -1,0 +1,9 @@
+pub mod Hits
+pub mod Schedules
+pub mod Prize
+pub mod Cut
+pub mod Jackpots
+pub mod Settle
+pub mod Found
+pub mod Rounds
+pub mod Bounds

@@ -1,0 +1,44 @@
+// The prize of a way.
+use crate::schedule;
+use sale::terms::Kind;
+use sale::terms::Schedule;
+ghost use mathlib.Core.Path.{_≡_};
+ghost use Rattle.prizes.specs.Prize.{isMajor, dollars, prize};
+
+// What a way wins for a stake of one dollar, jackpot shares aside.
+pub fn dollars_of(kind: Kind, selection: u32, matched: u32) -> u16
+    ensures { λ r. ⌜ r ≡ dollars kind selection matched ⌝ }
+{
+    match kind {
+        Kind::Standard => schedule::standard(selection, matched),
+        Kind::Jackpot => {
+            if matched == selection {
+                0
+            } else {
+                schedule::standard(selection, matched)
+            }
+        }
+        Kind::Special(s) => match s {
+            Schedule::One => schedule::special_one(selection, matched),
+            Schedule::Two => schedule::special_two(selection, matched),
+        },
+    }
+}
+
+// The prize of a way, in cents and before any cut: at most $50,000, but for jackpot tickets.
+pub fn prize_of(kind: Kind, stake: u32, selection: u32, matched: u32) -> u64
+    ensures { λ r. ⌜ r ≡ prize kind stake selection matched ⌝ }
+{
+    let cents = dollars_of(kind, selection, matched) as u64 * stake as u64;
+    if kind.is_jackpot() {
+        return cents;
+    }
+    if cents < 5_000_000 { cents } else { 5_000_000 }
+}
+
+// Whether a prize is a major one.
+pub fn is_major(cents: u64) -> bool
+    ensures { λ r. ⌜ r ≡ isMajor cents ⌝ }
+{
+    cents >= 20_000
+}

@@ -1,0 +1,58 @@
+// The live list: the live tickets' numbers in a lent buffer. Any order will do; they are written in rising number, as the rows stand.
+use house::state::House;
+ghost use mathlib.Core.Path.{_≡_};
+ghost use mathlib.Core.List.{List, map, _++_};
+ghost use Prim.Native.Nat.{ℕ, _+_, _*_, _≤_, _<_, _^_};
+ghost use lib.ListN.{length, drop, getD};
+ghost use lib.Seq.{sets};
+ghost use Rattle.sale.specs.Lists.{below};
+ghost use Rattle.house.specs.View.{view};
+ghost use Rattle.house.specs.Parts.{ComesWith};
+ghost use Rattle.queries.specs.Listing.{fourBytes, listBytes, Listing};
+
+// 0 with the number of live tickets, or the refusal's number.
+#[repr(C)]
+pub struct Listed {
+    pub code: u8,
+    pub count: u32,
+}
+
+// A number in four bytes, high byte first.
+fn write_number(out: &mut [u8], at: usize, number: u64)
+    requires { ⌜ (at + 4 ≤ length (now out)) × (number < 2 ^ 32) ⌝ }
+    ensures { λ r. ⌜ now (out .exit) ≡ sets (now (out .entry)) at (fourBytes number) ⌝ }
+{
+    out[at] = (number / 16777216 % 256) as u8;
+    out[at + 1] = (number / 65536 % 256) as u8;
+    out[at + 2] = (number / 256 % 256) as u8;
+    out[at + 3] = (number % 256) as u8;
+}
+
+// The numbers of the first tickets, one after another.
+fn write_numbers(rows: &[u64; 3200], live: usize, out: &mut [u8])
+    requires { ⌜ (live ≤ 200) × (4 * live ≤ length (now out)) × ((i : ℕ) → i < live → getD (now rows) (i * 16) 0 < 2 ^ 32) ⌝ }
+    ensures { λ r. ⌜ now (out .exit) ≡ listBytes (map (λ i. getD (now (rows .entry)) (i * 16) 0) (below live)) ++ drop (4 * live) (now (out .entry)) ⌝ }
+{
+    let mut i = 0;
+    while i < live {
+        let at = i * 16;
+        write_number(out, i * 4, rows[at]);
+        i += 1;
+    }
+}
+
+// The numbers of the live tickets, four bytes each, or code 30 where the buffer is too short.
+pub fn live_list(house: House, rows: &[u64; 3200], out: &mut [u8]) -> Listed
+    requires { ⌜ ComesWith house (now rows) ⌝ }
+    ensures { λ r. ⌜ ((marks : List ℕ) → Listing (view house (now (rows .entry)) marks) (now (out .entry)) (now (out .exit)) r) ⌝ }
+{
+    let live = house.live as usize;
+    if out.len() < live * 4 {
+        return Listed { code: 30, count: 0 };
+    }
+    write_numbers(rows, live, out);
+    Listed {
+        code: 0,
+        count: live as u32,
+    }
+}

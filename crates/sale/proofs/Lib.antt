@@ -1,0 +1,7 @@
+pub mod KeepLaws
+pub mod WayLaws
+pub mod WalkLaws
+pub mod SurveyLaws
+pub mod MarkLaws
+pub mod PriceLaws
+pub mod CheckLaws

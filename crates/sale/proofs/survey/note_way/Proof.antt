@@ -1,0 +1,62 @@
+-- `sale::survey::note_way` meets its contract: each of the three stores leaves the other places as they are.
+use mathlib.Core.Path.{_∙_}
+use Prim.Native.Nat.{_+_}
+use lib.ListN.{getD}
+use borrow.Author.Needs.{needs}
+use Rattle.sale.proofs.SurveyLaws.{stored}
+use Rattle.sale.proofs.survey.note_way.Statement.{statement}
+use Rattle.sale.proofs.survey.note_way.Tie as tie
+
+known-places-requires : tie.Need-known-places-requires
+known-places-requires c κs = search needs
+
+element-copy-out-least : tie.Need-element-copy-out-least
+element-copy-out-least c = search needs
+
+element-copy-out-most : tie.Need-element-copy-out-most
+element-copy-out-most c = search needs
+
+element-copy-out-table : tie.Need-element-copy-out-table
+element-copy-out-table c = search needs
+
+add-table : tie.Need-add-table
+add-table c = search needs
+
+element-write-table : tie.Need-element-write-table
+element-write-table c = search needs
+
+smaller-requires : tie.Need-smaller-requires
+smaller-requires c κs = search needs
+
+element-write-table-2 : tie.Need-element-write-table-2
+element-write-table-2 c = search needs
+
+larger-requires : tie.Need-larger-requires
+larger-requires c κs = search needs
+
+element-write-table-3 : tie.Need-element-write-table-3
+element-write-table-3 c = search needs
+
+returns : tie.Need-returns
+returns c =
+    let start = c .before .before .before .before .before .before .before in
+    let known = c .before .before .before .before .before in
+    let table = start .args .table .now in
+    stored table (known .known-places .ensures) _ _ _
+    ∙ (λ i. record { count = getD table 0 0 + 1; least = c .before .smaller .ensures i; most = c .larger .ensures i })
+
+pub note-way-spec : {M : Type 1} → statement M
+note-way-spec =
+    tie.close
+    (tie.spec
+    known-places-requires
+    element-copy-out-least
+    element-copy-out-most
+    element-copy-out-table
+    add-table
+    element-write-table
+    smaller-requires
+    element-write-table-2
+    larger-requires
+    element-write-table-3
+    returns)

@@ -1,0 +1,68 @@
+-- "Top to bottom; the first met is given": Sell's operand checks. "7 kind over 3; 8 games not 1 to 100; 9 groups not 1 to 8; 10 not 80
+-- marks, a mark over g, or an empty group; 11 types 0 or naming more than g groups; 12 a way's size against its kind; 13 Special One, one
+-- way; 14 stake; 15 charge".
+use Prim.Native.Nat.{ℕ, _^_}
+use mathlib.Core.Bool.{Bool, cond, not, _&&_, _||_}
+use mathlib.Core.List.{List, [], _∷_}
+use lib.Dec.{ltb, leb, eqb}
+use lib.ListN.{length, take}
+use Rattle.sale.specs.Lists.{every}
+use Rattle.sale.specs.Kinds.{kindOf, isSpecialOne, sizesFit, jackpotBy}
+use Rattle.sale.specs.Ways.{sizes, sizeWord, ways, waySizes}
+use Rattle.sale.specs.Price.{chargeLimit, paidGames, stakeFits, charge}
+use Rattle.sale.specs.declared.check.Quote.{Quote}
+
+-- the operands of Sell, as the caller gives them
+pub record Operands : Type 0 where
+  pub kind : ℕ
+  pub games : ℕ
+  pub stake : ℕ
+  pub groups : ℕ
+  pub types : ℕ
+  pub marks : List ℕ
+
+-- the number of the first row that is met, and 0 where none is
+unfoldable pub firstMet : List (Bool × ℕ) → ℕ
+firstMet [] = 0
+firstMet (row ∷ rows) = cond (row .0) (row .1) (firstMet rows)
+
+abbrev pub wayCount : Operands → ℕ
+wayCount o = length (ways (o .groups) (o .types))
+
+abbrev pub chargeOf : Operands → ℕ
+chargeOf o = charge (o .stake) (wayCount o) (paidGames (o .games))
+
+unfoldable pub marksFit : ℕ → List ℕ → Bool
+marksFit g marks =
+    eqb (length marks) 80 && every (λ m. leb m g) marks && every (λ n. not (eqb n 0)) (take g (sizes marks))
+
+unfoldable pub operandRows : Operands → List (Bool × ℕ)
+operandRows o =
+    (not (leb (o .kind) 3), 7)
+    ∷ (not (leb 1 (o .games) && leb (o .games) 100), 8)
+    ∷ (not (leb 1 (o .groups) && leb (o .groups) 8), 9)
+    ∷ (not (marksFit (o .groups) (o .marks)), 10)
+    ∷ (eqb (o .types) 0 || leb (2 ^ o .groups) (o .types), 11)
+    ∷ (not (sizesFit (kindOf (o .kind)) (waySizes (o .groups) (o .types) (sizes (o .marks)))), 12)
+    ∷ (isSpecialOne (kindOf (o .kind)) && eqb (wayCount o) 1, 13)
+    ∷ (not (stakeFits (kindOf (o .kind)) (wayCount o) (o .stake)), 14)
+    ∷ (ltb chargeLimit (chargeOf o), 15)
+    ∷ []
+
+-- 0, or the refusal of a sale by its operands alone
+unfoldable pub operandCode : Operands → ℕ
+operandCode o = firstMet (operandRows o)
+
+-- the jackpot that the operands play for
+abbrev pub jackpotOf : Operands → ℕ
+jackpotOf o =
+    jackpotBy
+    (record { kind = kindOf (o .kind); games = o .games; stake = o .stake; groups = o .groups; types = o .types })
+    (sizes (o .marks))
+
+-- what a sale is told: the charge, and what the ticket keeps of its operands; or the refusal
+unfoldable pub quoteOf : Operands → Quote
+quoteOf o =
+    cond (eqb (operandCode o) 0)
+    (record { code = 0; ways = wayCount o; charge = chargeOf o; jackpot = jackpotOf o; sizes = sizeWord (sizes (o .marks)) })
+    (record { code = operandCode o; ways = 0; charge = 0; jackpot = 0; sizes = 0 })

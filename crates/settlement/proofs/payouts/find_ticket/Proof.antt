@@ -1,0 +1,92 @@
+-- `settlement::payouts::find_ticket` meets its contract: the row says whether the ticket runs; its words fit the terms, and its word of sizes is that of
+-- its marks.
+use mathlib.Core.Path.{sym, _∙_, subst}
+use native.Mathlib.Omega.{arith}
+use borrow.Author.Needs.{needs}
+use borrow.Author.Tests.{not-true, not-false}
+use Rattle.sale.specs.Bounds.{Sound}
+use Rattle.house.specs.View.{marksAt, ticketFrom}
+use Rattle.house.proofs.Bounded.{terms-sound}
+use Rattle.settlement.specs.Passing.{Sold, FoundAt}
+use Rattle.house.specs.declared.rows.Row.{Row}
+use Rattle.settlement.proofs.PassSteps.{row-narrow, row-grouping, ticket-rests, ticket-runs}
+use Rattle.settlement.proofs.payouts.find_ticket.Statement.{statement}
+use Rattle.settlement.proofs.payouts.find_ticket.Tie as tie
+
+read-row-requires : tie.Need-read-row-requires
+read-row-requires c κs = record { within = c .pre .0 .place }
+
+-- the row that was read is the ticket's
+row-sold : (c : tie.After-read-row) → Sold (ticketFrom (c .read-row .result) (marksAt (c .before .args .marks .now) (c .before .args .i)))
+row-sold c =
+    let args = c .before .args in
+    subst (λ (w : Row). Sold (ticketFrom w (marksAt (args .marks .now) (args .i)))) (sym (c .read-row .ensures)) (c .before .pre .0 .sold)
+
+is-running-requires : tie.Need-is-running-requires
+is-running-requires c κs = search needs
+
+returns : tie.Need-returns
+returns c =
+    let read = c .before .before in
+    let args = read .before .args in
+    let own = marksAt (args .marks .now) (args .i) in
+    subst (λ (w : Row). FoundAt (args .game) (args .draw) (ticketFrom w own) (args .before) (args .majors .now) (record { sure = 0; full = 0; majors = args .before }) (args .majors .now))
+    (read .read-row .ensures)
+    (ticket-rests (read .read-row .result) own (args .game) (args .draw) (args .before) (args .majors .now)
+    (sym (c .before .is-running .ensures) ∙ not-true _ (c .if1 .taken)))
+
+known-marks-requires : tie.Need-known-marks-requires
+known-marks-requires c κs = search needs
+
+ticket-groups-requires : tie.Need-ticket-groups-requires
+ticket-groups-requires c κs =
+    let known = c .before in
+    let read = known .before .before .before in
+    let own = marksAt (read .before .args .marks .now) (read .before .args .i) in (
+      record { place = read .before .pre .0 .place; own = omega (arith, known .known-marks .ensures, read .before .pre .0 .place) },
+      row-grouping (read .read-row .result) own (row-sold read .checked),
+    )
+
+row-terms-requires : tie.Need-row-terms-requires
+row-terms-requires c κs =
+    let read = c .before .before .before .before .before in
+    let own = marksAt (read .before .args .marks .now) (read .before .args .i) in
+    row-narrow (read .read-row .result) own (row-sold read .checked)
+
+ticket-prizes-requires : tie.Need-ticket-prizes-requires
+ticket-prizes-requires c κs =
+    let terms = c .before .before in
+    let groups = terms .before in
+    let read = groups .before .before .before .before .before in
+    let own = marksAt (read .before .args .marks .now) (read .before .args .i) in (
+      subst Sound (sym (terms .row-terms .ensures)) (terms-sound (ticketFrom (read .read-row .result) own .operands) (row-sold read .checked)),
+      groups .ticket-groups .ensures .groups,
+      read .before .pre .1,
+    )
+
+returns-2 : tie.Need-returns-2
+returns-2 c =
+    let terms = c .before .before .before in
+    let groups = terms .before in
+    let runs = groups .before .before .before in
+    let read = runs .before .before in
+    let args = read .before .args in
+    let row = read .read-row .result in
+    let own = marksAt (args .marks .now) (args .i) in
+    subst (λ (w : Row). FoundAt (args .game) (args .draw) (ticketFrom w own) (args .before) (args .majors .now) (c .ticket-prizes .result) (c .ticket-prizes .last .1 .1 .1 .0))
+    (read .read-row .ensures)
+    (ticket-runs row own (args .game) (args .draw) (args .before) (args .majors .now) (sym (runs .before .is-running .ensures) ∙ not-false _ (runs .if1 .left))
+    (row-sold read) (terms .row-terms .ensures) (groups .ticket-groups .ensures) (c .ticket-prizes .ensures))
+
+pub find-ticket-spec : {M : Type 1} → statement M
+find-ticket-spec =
+    tie.close
+    (tie.spec
+    read-row-requires
+    is-running-requires
+    returns
+    known-marks-requires
+    ticket-groups-requires
+    row-terms-requires
+    ticket-prizes-requires
+    returns-2)

@@ -1,0 +1,5 @@
+// The settlement of a drawn game: prizes with their cut, stakes and jackpots.
+mod figures;
+mod payouts;
+pub mod settle;
+pub mod shares;
