@@ -65,7 +65,7 @@ impl House {
             eight,
             counters: Counters {
                 taken: 0,
-                seeds: 1_350_000,
+                seeds: House::GUARANTEE_OF_SIX + House::GUARANTEE_OF_EIGHT,
                 paid: 0,
                 refunded: 0,
                 unclaimed: 0,

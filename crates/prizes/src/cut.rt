@@ -1,8 +1,15 @@
 // One round of the cut of a game's major prizes (rules 12.3 to 12.5).
+use crate::prize::MAJOR_FLOOR;
 ghost use mathlib.Core.Path.{_≡_};
 ghost use Prim.Native.Nat.{_+_, _*_, _-_, _/_, _%_, max};
 ghost use Rattle.prizes.specs.Bounds.{Payable, Cuttable, Divided};
 ghost use Rattle.prizes.specs.Rounds.{firstCut, uncut, payUnder, nextBelow};
+
+// The most that a game pays in major prizes together, in cents (rule 12.3).
+pub const MAJORS_LIMIT: u64 = 5_000_000;
+
+// So many floors make the most for a game: from as many major prizes on, each is paid the floor.
+pub const FLOORS_IN_LIMIT: u64 = 250;
 
 // A round of the cut: the floored prizes are those below `below`, `count` of them, and the others make `base` cents.
 pub struct Cut {
@@ -23,24 +30,24 @@ impl Cut {
         }
     }
 
-    // The state under which no prize is cut: each is its own part of the most for a game, 5,000,000 (rule 12.3).
+    // The state under which no prize is cut: each is its own part of the most for a game.
     pub fn none() -> Cut
         ensures { λ r. ⌜ r ≡ uncut ⌝ }
     {
         Cut {
             below: 0,
             count: 0,
-            base: 5_000_000,
+            base: MAJORS_LIMIT,
         }
     }
 
-    // What the prizes outside the floored share of the most for a game (rule 12.3), 0 where the floored take it all.
+    // What the prizes outside the floored share of the most for a game, 0 where the floored take it all.
     fn shareable(self) -> u64
         ensures { λ r. ⌜ r ≡ Rattle.prizes.specs.Rounds.shareable self ⌝ }
     {
         let count = self.count;
-        if count < 250 {
-            5_000_000 - 20_000 * count
+        if count < FLOORS_IN_LIMIT {
+            MAJORS_LIMIT - MAJOR_FLOOR * count
         } else {
             0
         }
@@ -53,11 +60,11 @@ impl Cut {
     {
         let below = self.below;
         let base = self.base;
-        if prize < 20_000 {
+        if prize < MAJOR_FLOOR {
             return prize;
         }
         if prize < below {
-            return 20_000;
+            return MAJOR_FLOOR;
         }
         let part = self.shareable();
         if base < prize {
@@ -81,12 +88,12 @@ impl Cut {
     }
 }
 
-// 20,000 × base / part, rounded up, with no product that could overflow.
+// The floor × base / part, rounded up, with no product that could overflow.
 fn rounded_up(base: u64, part: u64) -> u64
     requires { ⌜ Divided base part ⌝ }
     ensures { λ r. ⌜ r ≡ 20000 * (base / part) + (20000 * (base % part) + (part - 1)) / part ⌝ }
 {
-    20_000 * (base / part) + (20_000 * (base % part) + (part - 1)) / part
+    MAJOR_FLOOR * (base / part) + (MAJOR_FLOOR * (base % part) + (part - 1)) / part
 }
 
 fn larger(a: u64, b: u64) -> u64

@@ -43,7 +43,7 @@ fn find_way(pair: u32, kind: Kind, stake: u32, found: &mut [u64; 3], majors: &mu
         figures::add(cents, full, found);
         return;
     }
-    figures::add(20_000, full, found);
+    figures::add(prize::MAJOR_FLOOR, full, found);
     figures::store(cents, found, majors);
 }
 

@@ -1,6 +1,8 @@
 // The major prizes of a game, in a table of fewer than 250, and what each is paid: the rounds of the cut go over the table (rules 12.3 to 12.5).
 // From 250 on each is paid the floor, and no table is needed.
 use crate::cut::Cut;
+use crate::cut::MAJORS_LIMIT;
+use crate::prize::MAJOR_FLOOR;
 ghost use mathlib.Core.Path.{_≡_};
 ghost use mathlib.Core.List.{map};
 ghost use Prim.Native.Nat.{_-_};
@@ -62,14 +64,13 @@ fn last_round(majors: &[u64; 250], count: usize, total: u64) -> Cut
     }
 }
 
-// The state of the cut under which the first prizes of the table are paid what the rule says. They are cut where they pass the most for a game,
-// 5,000,000 (rule 12.3).
+// The state of the cut under which the first prizes of the table are paid what the rule says. They are cut where they pass the most for a game.
 pub fn cut_of(majors: &[u64; 250], count: usize) -> Cut
     requires { ⌜ Listed (now majors) count ⌝ }
     ensures { λ r. ⌜ Pays r (take count (now (majors .entry))) ⌝ }
 {
     let total = sum_of(majors, count);
-    if total <= 5_000_000 {
+    if total <= MAJORS_LIMIT {
         return Cut::none();
     }
     last_round(majors, count, total)
@@ -84,7 +85,7 @@ pub fn raise_of(majors: &[u64; 250], from: usize, many: usize, cut: Cut) -> u64
     let mut i = 0;
     while i < many {
         let paid = cut.payout(majors[from + i]);
-        total += paid - 20_000;
+        total += paid - MAJOR_FLOOR;
         i += 1;
     }
     total

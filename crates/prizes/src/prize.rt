@@ -5,6 +5,12 @@ use sale::terms::Schedule;
 ghost use mathlib.Core.Path.{_≡_};
 ghost use Rattle.prizes.specs.Prize.{isMajor, dollars, prize};
 
+// The most that a way wins, in cents, but for jackpot tickets (rule 12.2).
+pub const PRIZE_LIMIT: u64 = 5_000_000;
+
+// The least major prize, in cents. No cut goes below it.
+pub const MAJOR_FLOOR: u64 = 20_000;
+
 // What a way wins for a stake of one dollar, jackpot shares aside.
 pub fn dollars_of(kind: Kind, selection: u32, matched: u32) -> u16
     ensures { λ r. ⌜ r ≡ dollars kind selection matched ⌝ }
@@ -33,12 +39,16 @@ pub fn prize_of(kind: Kind, stake: u32, selection: u32, matched: u32) -> u64
     if kind.is_jackpot() {
         return cents;
     }
-    if cents < 5_000_000 { cents } else { 5_000_000 }
+    if cents < PRIZE_LIMIT {
+        cents
+    } else {
+        PRIZE_LIMIT
+    }
 }
 
 // Whether a prize is a major one.
 pub fn is_major(cents: u64) -> bool
     ensures { λ r. ⌜ r ≡ isMajor cents ⌝ }
 {
-    cents >= 20_000
+    cents >= MAJOR_FLOOR
 }

@@ -5,6 +5,7 @@ use house::rows;
 use house::rows::Row;
 use house::state::House;
 use prizes::cut::Cut;
+use prizes::cut::FLOORS_IN_LIMIT;
 use prizes::draw::Draw;
 use prizes::found;
 use prizes::found::Found;
@@ -171,7 +172,7 @@ pub(crate) fn find_prizes(
         &mut ends,
         &mut majors,
     );
-    if 250 <= count {
+    if FLOORS_IN_LIMIT <= count {
         return;
     }
     let cut = cut_of(&majors, count as usize);
