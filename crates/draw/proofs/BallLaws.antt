@@ -16,7 +16,7 @@ use Rattle.prizes.specs.Hits.{drawOf}
 use Rattle.prizes.specs.declared.draw.Draw.{Draw}
 use Rattle.prizes.proofs.SettleLaws.{member-left, member-right, awards-count, awards-sum}
 use Rattle.house.specs.Tickets.{Ticket, entryOf}
-use Rattle.house.specs.Model.{Model, Counters, withMoney}
+use Rattle.house.specs.Model.{Model, withMoney, withSeeds, withGained, withLost}
 use Rattle.house.specs.Commands.{ball, blankTicket, replies, codeOf, ballsWith, settles, runningIn, settledBy, settlement, stakesDrawn, finishedOn, awarded, gameEnded, gameSettled, ballEntered, act, reply, step}
 use Rattle.house.specs.Balance.{Reached}
 use Rattle.house.specs.Till.{tillOf}
@@ -35,7 +35,7 @@ use Rattle.house.proofs.ReachedHouses.{Sure, reached-sure}
 use Rattle.settlement.specs.Settling.{SettledAs}
 use Rattle.settlement.specs.declared.settle.Settlement.{Settlement}
 use Rattle.settlement.proofs.TablePlaces.{table-more, tables-alike, table-of}
-use Rattle.draw.specs.Closing.{houseSettled}
+use Rattle.draw.specs.Closing.{countersSettled, houseSettled}
 
 -- ---- the balls in
 
@@ -77,7 +77,7 @@ pub entered-view : (h : House) (words marks : List ℕ) (b : ℕ) (balls : List 
     ≡ ballEntered b (view h words marks)
 unfolding view ballEntered
 entered-view h words marks b balls e =
-    ap (λ bs. record { day = h .day; game = h .game; balls = bs; issued = h .issued; live = view h words marks .live; six = h .six; eight = h .eight; counters = view h words marks .counters }) e
+    ap (λ bs. record { day = h .day; game = h .game; balls = bs; issued = h .issued; live = view h words marks .live; six = h .six; eight = h .eight; counters = h .counters }) e
 
 -- ---- before the twentieth, and at it
 
@@ -167,11 +167,6 @@ pub settled-reply : (m : Model) (b : ℕ)
 unfolding settlement
 settled-reply m b = refl
 
--- the counters once a settlement is taken in
-abbrev countersSettled : Counters → Settlement → Counters
-countersSettled c s =
-    record { taken = c .taken; seeds = c .seeds + (s .six .seed + s .eight .seed); paid = c .paid; refunded = c .refunded; unclaimed = c .unclaimed; gained = c .gained + s .stakes + (s .six .repaid + s .eight .repaid); lost = c .lost + (s .six .contributions + s .eight .contributions) + s .prizes }
-
 settled-money : (m : Model) (b : ℕ) (awards : List ℕ) (s : Settlement)
     → SettledAs m (lastDraw m b) awards s
     → withMoney (gameEnded (settlement b m .awards) m) (s .six .after) (s .eight .after) (countersSettled (m .counters) s) ≡ gameSettled b m
@@ -179,7 +174,7 @@ unfolding gameSettled settlement
 settled-money m b awards s f =
     λ i.
     withMoney (gameEnded (settlement b m .awards) m) (f .six i) (f .eight i)
-    (record { taken = m .counters .taken; seeds = m .counters .seeds + f .seeds i; paid = m .counters .paid; refunded = m .counters .refunded; unclaimed = m .counters .unclaimed; gained = m .counters .gained + f .stakes i + f .repaid i; lost = m .counters .lost + f .contributions i + f .prizes i })
+    (withSeeds (f .seeds i) (withGained (f .repaid i) (withGained (f .stakes i) (withLost (f .prizes i) (withLost (f .contributions i) (m .counters))))))
 
 money-view : (h : House) (words marks : List ℕ) (s : Settlement)
     → view (houseSettled h s) words marks

@@ -7,7 +7,7 @@ use lib.ListN.{length, getD}
 use Rattle.prizes.specs.Hits.{drawOf}
 use Rattle.prizes.specs.declared.draw.Draw.{Draw}
 use Rattle.house.specs.Tickets.{Ticket, withDue}
-use Rattle.house.specs.Model.{Model}
+use Rattle.house.specs.Model.{Model, withSeeds, withGained, withLost}
 use Rattle.house.specs.Commands.{ball, codeOf, ballsWith, finishedOn}
 use Rattle.house.specs.Balance.{Reached}
 use Rattle.house.specs.View.{rowOf}
@@ -19,7 +19,14 @@ use Rattle.settlement.specs.declared.settle.Settlement.{Settlement}
 abbrev pub paidTicket : ℕ → ℕ → ℕ → Ticket → Ticket
 paidTicket day game cents t = finishedOn day game (withDue t (t .due + cents))
 
--- the house with the pools and the counters of a settled game
+-- the counters once a settled game is taken in
+abbrev pub countersSettled : Counters → Settlement → Counters
+countersSettled c s =
+    withSeeds (s .six .seed + s .eight .seed)
+    (withGained (s .six .repaid + s .eight .repaid)
+    (withGained (s .stakes) (withLost (s .prizes) (withLost (s .six .contributions + s .eight .contributions) c))))
+
+-- the house with its pools and its counters
 abbrev pub houseSettled : House → Settlement → House
 houseSettled h s =
     record {
@@ -31,7 +38,7 @@ houseSettled h s =
       live = h .live;
       six = s .six .after;
       eight = s .eight .after;
-      counters = record { taken = h .counters .taken; seeds = h .counters .seeds + (s .six .seed + s .eight .seed); paid = h .counters .paid; refunded = h .counters .refunded; unclaimed = h .counters .unclaimed; gained = h .counters .gained + s .stakes + (s .six .repaid + s .eight .repaid); lost = h .counters .lost + (s .six .contributions + s .eight .contributions) + s .prizes };
+      counters = countersSettled (h .counters) s;
     }
 
 -- counters that a settled game leaves within 64 bits

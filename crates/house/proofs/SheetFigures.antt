@@ -2,7 +2,7 @@
 -- apart into what stays and what is moved.
 use Prim.Native.Nat.{ℕ, suc, _+_, _-_, _≤_, _<_, min, max}
 use mathlib.Core.Path.{_≡_, refl, sym, ap, _∙_}
-use mathlib.Core.Bool.{Bool, true, false, cond, not, _&&_, _||_, true≢false, false≢true}
+use mathlib.Core.Bool.{Bool, true, false, cond, _&&_, _||_, false≢true}
 use mathlib.Core.List.{List, [], _∷_, _++_, map, map-map}
 use native.Mathlib.Nat.{add-zero}
 use native.Mathlib.Omega.{arith}
@@ -13,16 +13,17 @@ use Rattle.sale.specs.Lists.{sum, keep, any, member}
 use Rattle.sale.specs.Checks.{Operands, chargeOf, wayCount}
 use Rattle.sale.specs.Price.{charge, paidGames}
 use Rattle.prizes.specs.Settle.{settle}
-use Rattle.house.specs.Tickets.{Ticket, runsIn, gamesLeft, isFinished, isLive, paidStakes, heldFor, entryOf, withDue, withStop, withFinishedDay}
-use Rattle.house.specs.Model.{Model, nextGame}
+use Rattle.house.specs.Tickets.{Ticket, runsIn, isLive, paidStakes, heldFor, entryOf, withDue, withStop}
+use Rattle.house.specs.Model.{Model, Counters, nextGame}
 use Rattle.house.specs.Commands.{ticketAt, hasTicket, changed, stillLive, finishedOn, soldTicket, cancelStop, cancelledTicket, refundOf, awarded, runningIn, stakesDrawn, settlement, isExpired, expiring}
-use Rattle.house.specs.Till.{tillOf}
-use Rattle.house.specs.Sheet.{Line, gamesFrom, stakesOf, lineEntry, totalAt, takenOff, playing, sheetSettlement, lateDues, tooLate}
+use Rattle.house.specs.Till.{Figures, tillOf}
+use Rattle.house.specs.Sheet.{Line, gamesFrom, lineEntry, totalAt, takenOff, playing, stakesPlayed, sheetSettlement, lateDues, tooLate}
 use Rattle.house.proofs.Ledger.{All, Kept, Orderly, lineOf, sheetFor, houseOf}
+use Rattle.house.proofs.ListLaws.{cond-either}
 use Rattle.house.proofs.MoneyLaws.{all-of, all-from, all-kept, keep-same, keep-keep, keep-none, any-none, sum-kept, sum-picked, sum-parts, map-same, keep-map, sum-unmoved, sum-moved}
 use Rattle.house.proofs.SpanLaws.{plays-left, stakes-split, held-none, stakes-of-game, held-drawn}
 use Rattle.house.proofs.SheetLines.{taken-off, late-alike}
-use Rattle.house.proofs.LiveTickets.{running-live, next-game-least}
+use Rattle.house.proofs.LiveTickets.{closed-of, finished-on-keeps, running-live, next-game-least}
 
 -- what some tickets are due, and what they hold
 abbrev pub dues : List Ticket → ℕ
@@ -31,41 +32,35 @@ dues ts = sum (map (λ t. t .due) ts)
 abbrev pub stakesHeld : ℕ → List Ticket → ℕ
 stakesHeld game ts = sum (map (heldFor game) ts)
 
--- ---- closed tickets add nothing
+-- a till from the counters and from what is owed, held and pooled
+abbrev pub tillFrom : Counters → ℕ → ℕ → ℕ → Figures
+tillFrom c owed held pool =
+    record {
+      taken = c .taken;
+      seeds = c .seeds;
+      paid = c .paid;
+      refunded = c .refunded;
+      owed = owed;
+      held = held;
+      unclaimed = c .unclaimed;
+      pooled = pool;
+      gained = c .gained;
+      lost = c .lost;
+    }
 
-closed-none : (game : ℕ) (t : Ticket) → isLive game t ≡ false → (gamesLeft game t ≡ 0) × (t .due ≡ 0)
-closed-none game t shut = go (isFinished game t) refl (eqb (t .due) 0) refl shut
-  where
-    go : (done : Bool) → isFinished game t ≡ done → (none : Bool) → eqb (t .due) 0 ≡ none → not (done && none) ≡ false →
-        (gamesLeft game t ≡ 0) × (t .due ≡ 0)
-    go true d true n closed = (eqb-true (gamesLeft game t) 0 d, eqb-true (t .due) 0 n)
-    go true d false n closed = absurd (true≢false closed)
-    go false d none n closed = absurd (true≢false closed)
+-- ---- closed tickets add nothing
 
 pub live-owed : (game : ℕ) (ts : List Ticket) → dues (stillLive game ts) ≡ dues ts
 unfolding stillLive
-live-owed game ts = sum-kept (λ t. t .due) (isLive game) (λ t shut. closed-none game t shut .1) ts
+live-owed game ts = sum-kept (λ t. t .due) (isLive game) (λ t shut. closed-of game t shut .due) ts
 
 pub live-held : (game : ℕ) (ts : List Ticket) → stakesHeld game (stillLive game ts) ≡ stakesHeld game ts
 unfolding stillLive
-live-held game ts = sum-kept (heldFor game) (isLive game) (λ t shut. held-none game t (closed-none game t shut .0)) ts
+live-held game ts = sum-kept (heldFor game) (isLive game) (λ t shut. held-none game t (closed-of game t shut .games)) ts
 
 pub till-of-house : (m : Model) → tillOf (houseOf m) ≡ tillOf m
 unfolding tillOf
-till-of-house m =
-    λ i.
-    record {
-      taken = m .counters .taken;
-      seeds = m .counters .seeds;
-      paid = m .counters .paid;
-      refunded = m .counters .refunded;
-      owed = live-owed (m .game) (m .live) i;
-      held = live-held (m .game) (m .live) i;
-      unclaimed = m .counters .unclaimed;
-      pooled = tillOf m .pooled;
-      gained = m .counters .gained;
-      lost = m .counters .lost;
-    }
+till-of-house m = λ i. tillFrom (m .counters) (live-owed (m .game) (m .live) i) (live-held (m .game) (m .live) i) (tillOf m .pooled)
 
 -- ---- the one ticket of a number
 
@@ -123,19 +118,17 @@ module _ (live : Ticket → Bool) (f : Ticket → ℕ) (n : ℕ) where
 
 -- a finishing day is no money
 pub finished-due : (day game : ℕ) (t : Ticket) → finishedOn day game t .due ≡ t .due
-finished-due day game t = go (isFinished game t && eqb (t .finishedDay) 0)
-  where
-    go : (b : Bool) → cond b (withFinishedDay t day) t .due ≡ t .due
-    go true = refl
-    go false = refl
+finished-due = finished-on-keeps (λ t. t .due) (λ t day. refl)
 
 pub finished-held : (day game now : ℕ) (t : Ticket) → heldFor now (finishedOn day game t) ≡ heldFor now t
 unfolding paidStakes
-finished-held day game now t = go (isFinished game t && eqb (t .finishedDay) 0)
-  where
-    go : (b : Bool) → heldFor now (cond b (withFinishedDay t day) t) ≡ heldFor now t
-    go true = refl
-    go false = refl
+finished-held day game now = finished-on-keeps (heldFor now) (λ t d. refl) day game
+
+-- a figure that a change of some tickets does not touch
+unmoved : (f : Ticket → ℕ) (test : Ticket → Bool) (change : Ticket → Ticket) → ((t : Ticket) → f (change t) ≡ f t) → (ts : List Ticket) →
+    sum (map f (map (λ t. cond (test t) (change t) t) ts)) ≡ sum (map f ts)
+unmoved f test change same =
+    sum-unmoved f (λ t. cond (test t) (change t) t) (λ t. cond-either (λ u. f u ≡ f t) (test t) (same t) refl)
 
 -- the sheet's total of the lines of a number is the figure of the live ticket
 line-total : (m : Model) (n : ℕ) (f : Line → ℕ) (g : Ticket → ℕ) → Orderly m →
@@ -157,19 +150,14 @@ line-total m n f g orderly each here =
 module _ (m : Model) (n : ℕ) where
   pub cancel-owed : dues (changed n (cancelledTicket m) (m .live)) ≡ dues (m .live)
   unfolding changed
-  cancel-owed = sum-unmoved (λ t. t .due) (λ t. cond (eqb (t .number) n) (cancelledTicket m t) t) (λ t. go t (eqb (t .number) n)) (m .live)
-    where
-      go : (t : Ticket) (b : Bool) → cond b (cancelledTicket m t) t .due ≡ t .due
-      go t true = finished-due (m .day) (m .game) (withStop t (min (t .stop) (cancelStop m t)))
-      go t false = refl
+  cancel-owed =
+      unmoved (λ t. t .due) (λ t. eqb (t .number) n) (cancelledTicket m)
+      (λ t. finished-due (m .day) (m .game) (withStop t (min (t .stop) (cancelStop m t))))
+      (m .live)
 
   pub claim-held : stakesHeld (m .game) (changed n (λ t. withDue t 0) (m .live)) ≡ stakesHeld (m .game) (m .live)
   unfolding changed paidStakes
-  claim-held = sum-unmoved (heldFor (m .game)) (λ t. cond (eqb (t .number) n) (withDue t 0) t) (λ t. go t (eqb (t .number) n)) (m .live)
-    where
-      go : (t : Ticket) (b : Bool) → heldFor (m .game) (cond b (withDue t 0) t) ≡ heldFor (m .game) t
-      go t true = refl
-      go t false = refl
+  claim-held = unmoved (heldFor (m .game)) (λ t. eqb (t .number) n) (λ t. withDue t 0) (λ t. refl) (m .live)
 
 module _ (m : Model) (n : ℕ) (orderly : Orderly m) (here : hasTicket n (houseOf m .live) ≡ true) where
   pub cancel-total : totalAt n (takenOff (sheetFor m)) (map (lineOf (m .game)) (m .live)) ≡ refundOf n (houseOf m)
@@ -293,19 +281,14 @@ module _ (m : Model) where
           t .due ≡ cond late (withDue t 0) t .due + cond (live && late) (t .due) 0
       go t true alive true = omega arith
       go t true alive false = omega arith
-      go t false shut true = omega (arith, closed-none (m .game) t shut .1)
+      go t false shut true = omega (arith, closed-of (m .game) t shut .due)
       go t false shut false = omega arith
 
   pub expire-held :
       stakesHeld (m .game) (map (λ t. cond (isExpired m t) (withDue t 0) t) (m .live))
       ≡ stakesHeld (m .game) (m .live)
   unfolding paidStakes
-  expire-held =
-      sum-unmoved (heldFor (m .game)) (λ t. cond (isExpired m t) (withDue t 0) t) (λ t. go t (isExpired m t)) (m .live)
-    where
-      go : (t : Ticket) (b : Bool) → heldFor (m .game) (cond b (withDue t 0) t) ≡ heldFor (m .game) t
-      go t true = refl
-      go t false = refl
+  expire-held = unmoved (heldFor (m .game)) (isExpired m) (λ t. withDue t 0) (λ t. refl) (m .live)
 
 -- ---- the twentieth ball
 
@@ -333,8 +316,7 @@ pub settlements-alike : (m : Model) (b : ℕ) → Orderly m → sheetSettlement 
 unfolding sheetSettlement settlement
 settlements-alike m b orderly = ap (settle (record { balls = m .balls ++ (b ∷ []) }) (m .six) (m .eight)) (entries-alike m orderly)
 
-pub stakes-alike : (m : Model) → Orderly m →
-    sum (map (λ l. stakesOf l (m .game ∷ [])) (playing (sheetFor m))) ≡ stakesDrawn (houseOf m)
+pub stakes-alike : (m : Model) → Orderly m → stakesPlayed (sheetFor m) ≡ stakesDrawn (houseOf m)
 stakes-alike m orderly =
     ap sum
     (sym (map-map (λ e. e .paid) (lineEntry (m .game)) (playing (sheetFor m)))
@@ -355,20 +337,6 @@ drawn-held game ts =
     ∙ ap (λ k. stakesHeld (game + 1) ts + k) (sym (sum-picked (paidStakes game (game + 1)) (runsIn game) ts))
 
 module _ (game : ℕ) where
-  -- an award changes nothing but what is due
-  pub awarded-unmoved : (f : Ticket → ℕ) → ((t : Ticket) (cents : ℕ) → f (withDue t cents) ≡ f t) → (awards : List ℕ) (ts : List Ticket) →
-      map f (awarded game awards ts) ≡ map f ts
-  unfolding awarded
-  awarded-unmoved f same awards [] = refl
-  awarded-unmoved f same [] (t ∷ ts) = ap (λ l. f t ∷ l) (awarded-unmoved f same [] ts)
-  awarded-unmoved f same (a ∷ awards) (t ∷ ts) =
-      go (runsIn game t) (awarded-unmoved f same awards ts) (awarded-unmoved f same (a ∷ awards) ts)
-    where
-      go : (plays : Bool) → map f (awarded game awards ts) ≡ map f ts → map f (awarded game (a ∷ awards) ts) ≡ map f ts →
-          map f (cond plays (withDue t (t .due + a) ∷ awarded game awards ts) (t ∷ awarded game (a ∷ awards) ts)) ≡ f t ∷ map f ts
-      go true fewer all = λ i. same t (t .due + a) i ∷ fewer i
-      go false fewer all = ap (λ l. f t ∷ l) all
-
   -- the awards join the dues
   pub awarded-owed : (awards : List ℕ) (ts : List Ticket) → length awards ≡ length (keep (runsIn game) ts) →
       dues (awarded game awards ts) ≡ dues ts + sum awards

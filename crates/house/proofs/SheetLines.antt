@@ -3,21 +3,21 @@
 use Prim.Native.Nat.{ℕ, suc, _+_, _-_, _≤_, _<_, min, max}
 use mathlib.Core.Path.{_≡_, refl, sym, ap, ap₂, _∙_}
 use mathlib.Core.Bool.{Bool, true, false, cond, not, _&&_, and-not-self}
-use mathlib.Core.List.{List, [], _∷_, map}
+use mathlib.Core.List.{List, [], _∷_, map, map-map}
 use native.Mathlib.Omega.{arith}
 use lib.Dec.{ltb, leb, eqb}
 use lib.ListN.{length, length-map}
-use borrow.Author.Tests.{ltb-true, ltb-false, lt-leb, le-leb, le-ltb, lt-ltb, not-false, eqb-true, eqb-false, eq-eqb, ne-eqb}
+use borrow.Author.Tests.{ltb-true, ltb-false, lt-leb, le-leb, le-ltb, lt-ltb, eqb-true, eqb-false, eq-eqb, ne-eqb}
 use Rattle.sale.specs.Lists.{keep}
 use Rattle.sale.specs.Checks.{Operands}
 use Rattle.house.specs.Tickets.{Ticket, runsIn, gamesLeft, paidStakes, isFinished, isLive, withDue, withStop, withFinishedDay}
 use Rattle.house.specs.Model.{Model, isDrawing, nextGame}
 use Rattle.house.specs.Commands.{soldTicket, changed, cancelStop, cancelledTicket, finishedOn, awarded, isExpired}
-use Rattle.house.specs.Sheet.{Line, gamesFrom, stakesOf, leftWith, dueOf, onLine, newLine, stays, takenOff, settleLines, tooLate}
+use Rattle.house.specs.Sheet.{Line, gamesFrom, stakesOf, leftWith, dueWith, onLine, newLine, stays, takenOff, settleLines, tooLate}
 use Rattle.house.proofs.Ledger.{All, Kept, lineOf, sheetFor}
-use Rattle.house.proofs.MoneyLaws.{all-of, all-from}
+use Rattle.house.proofs.MoneyLaws.{all-of, all-from, map-same}
 use Rattle.house.proofs.SpanLaws.{length-games, keep-games, keep-below, span-above, plays-left, idle-first, idle-left, drawn-left, stakes-of-line}
-use Rattle.house.proofs.LiveTickets.{next-game-least}
+use Rattle.house.proofs.LiveTickets.{closed-of, next-game-least}
 
 -- ---- a line
 
@@ -133,19 +133,27 @@ cancelled-line m t kept =
 
 -- ---- changes by number
 
--- a change of the lines of a number follows that of its tickets
+-- a change of every line follows that of its ticket
+mapped-lines : (game : ℕ) (f : Line → Line) (g : Ticket → Ticket) (ts : List Ticket) →
+    All (λ t. f (lineOf game t) ≡ lineOf game (g t)) ts →
+    map f (map (lineOf game) ts) ≡ map (lineOf game) (map g ts)
+mapped-lines game f g ts each =
+    map-map f (lineOf game) ts
+    ∙ map-same (λ t. f (lineOf game t)) (λ t. lineOf game (g t)) ts each
+    ∙ sym (map-map (lineOf game) g ts)
+
+-- and so does one of the lines of a number
 changed-lines : (game n : ℕ) (f : Line → Line) (g : Ticket → Ticket) (ts : List Ticket) →
     All (λ t. f (lineOf game t) ≡ lineOf game (g t)) ts →
     onLine n f (map (lineOf game) ts) ≡ map (lineOf game) (changed n g ts)
 unfolding onLine changed
-changed-lines game n f g [] each = refl
-changed-lines game n f g (t ∷ ts) each =
-    let rest : onLine n f (map (lineOf game) ts) ≡ map (lineOf game) (changed n g ts) = changed-lines game n f g ts (each .1) in
-    λ i. go (eqb (t .number) n) i ∷ rest i
+changed-lines game n f g ts each =
+    mapped-lines game (λ l. cond (eqb (l .number) n) (f l) l) (λ t. cond (eqb (t .number) n) (g t) t) ts
+    (all-from (λ t same. go t same (eqb (t .number) n)) ts each)
   where
-    go : (b : Bool) → cond b (f (lineOf game t)) (lineOf game t) ≡ lineOf game (cond b (g t) t)
-    go true = each .0
-    go false = refl
+    go : (t : Ticket) → f (lineOf game t) ≡ lineOf game (g t) → (b : Bool) → cond b (f (lineOf game t)) (lineOf game t) ≡ lineOf game (cond b (g t) t)
+    go t same true = same
+    go t same false = refl
 
 pub cancelled-lines : (m : Model) (n : ℕ) → All (Kept (m .game)) (m .live) →
     onLine n (λ l. leftWith (m .day) (keep (stays (sheetFor m)) (l .left)) l) (map (lineOf (m .game)) (m .live))
@@ -162,9 +170,9 @@ cancelled-lines m n kept =
 -- ---- Claim
 
 pub claimed-lines : (game n : ℕ) (ts : List Ticket) →
-    onLine n (dueOf 0) (map (lineOf game) ts) ≡ map (lineOf game) (changed n (λ t. withDue t 0) ts)
+    onLine n (dueWith 0) (map (lineOf game) ts) ≡ map (lineOf game) (changed n (λ t. withDue t 0) ts)
 unfolding gamesLeft
-claimed-lines game n ts = changed-lines game n (dueOf 0) (λ t. withDue t 0) ts (all-of (λ t. refl) ts)
+claimed-lines game n ts = changed-lines game n (dueWith 0) (λ t. withDue t 0) ts (all-of (λ t. refl) ts)
 
 -- ---- Expire
 
@@ -192,42 +200,27 @@ late-alike m t =
     go false false late = refl
 
 expired-line : (m : Model) (t : Ticket) →
-    cond (tooLate (sheetFor m) (lineOf (m .game) t)) (dueOf 0 (lineOf (m .game) t)) (lineOf (m .game) t)
+    cond (tooLate (sheetFor m) (lineOf (m .game) t)) (dueWith 0 (lineOf (m .game) t)) (lineOf (m .game) t)
     ≡ lineOf (m .game) (cond (isExpired m t) (withDue t 0) t)
 unfolding gamesLeft
 expired-line m t =
-    ap (λ b. cond b (dueOf 0 (lineOf (m .game) t)) (lineOf (m .game) t)) (late-alike m t)
+    ap (λ b. cond b (dueWith 0 (lineOf (m .game) t)) (lineOf (m .game) t)) (late-alike m t)
     ∙ go (isLive (m .game) t) refl (isExpired m t)
   where
-    closed : (done none : Bool) → not (done && none) ≡ false → none ≡ true
-    closed true none shut = not-false none shut
-    closed false none shut = cc
-
     go : (live : Bool) → isLive (m .game) t ≡ live → (late : Bool) →
-        cond (live && late) (dueOf 0 (lineOf (m .game) t)) (lineOf (m .game) t) ≡ lineOf (m .game) (cond late (withDue t 0) t)
+        cond (live && late) (dueWith 0 (lineOf (m .game) t)) (lineOf (m .game) t) ≡ lineOf (m .game) (cond late (withDue t 0) t)
     go true alive true = refl
     go true alive false = refl
-    go false shut true =
-        let none : t .due ≡ 0 = eqb-true (t .due) 0 (closed (isFinished (m .game) t) (eqb (t .due) 0) shut) in
-        ap (λ cents. lineOf (m .game) (withDue t cents)) none
+    go false shut true = ap (λ cents. lineOf (m .game) (withDue t cents)) (closed-of (m .game) t shut .due)
     go false shut false = refl
 
--- a change of every line follows that of its ticket
-mapped-lines : (game : ℕ) (f : Line → Line) (g : Ticket → Ticket) (ts : List Ticket) →
-    All (λ t. f (lineOf game t) ≡ lineOf game (g t)) ts →
-    map f (map (lineOf game) ts) ≡ map (lineOf game) (map g ts)
-mapped-lines game f g [] each = refl
-mapped-lines game f g (t ∷ ts) each =
-    let rest : map f (map (lineOf game) ts) ≡ map (lineOf game) (map g ts) = mapped-lines game f g ts (each .1) in
-    λ i. each .0 i ∷ rest i
-
 pub expired-lines : (m : Model) →
-    map (λ l. cond (tooLate (sheetFor m) l) (dueOf 0 l) l) (map (lineOf (m .game)) (m .live))
+    map (λ l. cond (tooLate (sheetFor m) l) (dueWith 0 l) l) (map (lineOf (m .game)) (m .live))
     ≡ map (lineOf (m .game)) (map (λ t. cond (isExpired m t) (withDue t 0) t) (m .live))
 expired-lines m =
     mapped-lines
     (m .game)
-    (λ l. cond (tooLate (sheetFor m) l) (dueOf 0 l) l)
+    (λ l. cond (tooLate (sheetFor m) l) (dueWith 0 l) l)
     (λ t. cond (isExpired m t) (withDue t 0) t)
     (m .live)
     (all-of (expired-line m) (m .live))
@@ -237,7 +230,7 @@ expired-lines m =
 module _ (day game : ℕ) where
   -- a ticket that plays gets its award and has the game left no more
   settled-line : (t : Ticket) (award : ℕ) → Kept game t →
-      leftWith day (keep (λ g. not (eqb g game)) (lineOf game t .left)) (dueOf (t .due + award) (lineOf game t))
+      leftWith day (keep (λ g. not (eqb g game)) (lineOf game t .left)) (dueWith (t .due + award) (lineOf game t))
       ≡ lineOf (game + 1) (finishedOn day (game + 1) (withDue t (t .due + award)))
   unfolding gamesLeft
   settled-line t award kept =
@@ -252,7 +245,7 @@ module _ (day game : ℕ) where
 
   -- the line of a ticket that played
   abbrev playedLine : Ticket → ℕ → Line
-  playedLine t award = leftWith day (keep (λ g. not (eqb g game)) (lineOf game t .left)) (dueOf (t .due + award) (lineOf game t))
+  playedLine t award = leftWith day (keep (λ g. not (eqb g game)) (lineOf game t .left)) (dueWith (t .due + award) (lineOf game t))
 
   -- one that does not play stays as it is
   idle-line : (t : Ticket) → Kept game t → runsIn game t ≡ false → lineOf game t ≡ lineOf (game + 1) (finishedOn day (game + 1) t)

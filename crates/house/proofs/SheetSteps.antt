@@ -5,7 +5,7 @@ use mathlib.Core.Path.{_≡_, refl, sym, ap, ap₂, _∙_}
 use mathlib.Core.Bool.{Bool, true, false, cond, not}
 use mathlib.Core.List.{List, [], _∷_, _++_, map, map-append}
 use mathlib.Core.Logic.{_⊎_, inl, inr}
-use native.Mathlib.Nat.{add-zero}
+use native.Mathlib.Nat.{add-zero, add-assoc}
 use native.Mathlib.Numerals.{add-one}
 use native.Mathlib.Omega.{arith}
 use lib.Dec.{eqb, eqb·suc-suc}
@@ -15,55 +15,19 @@ use Rattle.sale.specs.Lists.{sum, keep}
 use Rattle.sale.specs.Checks.{Operands, chargeOf}
 use Rattle.prizes.specs.Jackpots.{pooled}
 use Rattle.prizes.specs.Settle.{Settled}
-use Rattle.house.specs.Tickets.{Ticket, runsIn, paidStakes, heldFor, entryOf, withDue}
-use Rattle.house.specs.Model.{Model}
-use Rattle.house.specs.Commands.{Command, open′, sell, cancel, ball, claim, expire, transfer, act, codeOf, hasTicket, opened, sold, soldTicket, cancelled, cancelledTicket, changed, ballsWith, settles, settlement, runningIn, stakesDrawn, awarded, finishedOn, gameSettled, ballEntered, claimed, expired, isExpired, refundOf, ticketAt, expiring, transferred, withPrimary}
-use Rattle.house.specs.Till.{Figures, tillOf}
-use Rattle.house.specs.Sheet.{Sheet, Line, newLine, totalAt, takenOff, lateDues, settleLines, moved, sheetOpen, sheetSell, sheetCancel, sheetSettle, sheetBall, twentieth, sheetClaim, sheetExpire, sheetTransfer, primaryWith}
+use Rattle.house.specs.Tickets.{Ticket, runsIn, paidStakes, heldFor, entryOf}
+use Rattle.house.specs.Model.{Model, withTaken, withPaid, withRefunded, withUnclaimed, withTransferred, withGained, withLost, withSeeds}
+use Rattle.house.specs.Commands.{Command, open′, sell, cancel, ball, claim, expire, transfer, act, codeOf, hasTicket, opened, sold, soldTicket, cancelled, ballsWith, settles, settlement, runningIn, stakesDrawn, awarded, finishedOn, afterGame, gameSettled, ballEntered, claimed, expired, transferred, withPrimary}
+use Rattle.house.specs.Till.{tillOf}
+use Rattle.house.specs.Sheet.{Sheet, sheetWith, gameWith, poolsWith, onFigure, newLine, moved, sheetOpen, sheetSell, sheetCancel, stakesPlayed, sheetSettlement, sheetSettle, sheetBall, twentieth, sheetClaim, sheetExpire, sheetTransfer, primaryWith}
 use Rattle.house.specs.Balance.{Balanced}
 use Rattle.house.proofs.Ledger.{Orderly, withLive, houseOf, lineOf, sheetFor, ledgerAfter}
 use Rattle.house.proofs.MoneyLaws.{sum-snoc, sum-unmoved}
 use Rattle.house.proofs.Refusals.{cancel-accepted, claim-accepted, transfer-accepted}
 use Rattle.house.proofs.SheetLines.{sold-line, cancelled-lines, claimed-lines, expired-lines, settled-lines}
-use Rattle.house.proofs.SheetFigures.{dues, stakesHeld, sold-held, cancel-total, cancel-held, cancel-owed, claim-total, claim-owed, claim-held, late-dues, expire-owed, expire-held, finished-due, finished-held, awarded-owed, awarded-unmoved, drawn-held, settlements-alike, stakes-alike}
-use Rattle.house.proofs.LiveTickets.{running-live}
+use Rattle.house.proofs.SheetFigures.{tillFrom, dues, stakesHeld, sold-held, cancel-total, cancel-held, cancel-owed, claim-total, claim-owed, claim-held, late-dues, expire-owed, expire-held, finished-due, finished-held, awarded-owed, drawn-held, settlements-alike, stakes-alike}
+use Rattle.house.proofs.LiveTickets.{awarded-keeps, running-live}
 use Rattle.prizes.proofs.SettleLaws.{awards-count, awards-sum, pools-balance}
-
-figures-same : {f g : Figures} →
-    f .taken ≡ g .taken → f .seeds ≡ g .seeds → f .paid ≡ g .paid → f .refunded ≡ g .refunded → f .owed ≡ g .owed →
-    f .held ≡ g .held → f .unclaimed ≡ g .unclaimed → f .pooled ≡ g .pooled → f .gained ≡ g .gained → f .lost ≡ g .lost →
-    f ≡ g
-figures-same taken seeds paid refunded owed held unclaimed pool gained lost =
-    λ i.
-    record {
-      taken = taken i;
-      seeds = seeds i;
-      paid = paid i;
-      refunded = refunded i;
-      owed = owed i;
-      held = held i;
-      unclaimed = unclaimed i;
-      pooled = pool i;
-      gained = gained i;
-      lost = lost i;
-    }
-
--- a sheet whose lines and figures follow
-sheet-same : {s r : Sheet} →
-    s .today ≡ r .today → s .game ≡ r .game → s .balls ≡ r .balls → s .six ≡ r .six → s .eight ≡ r .eight → s .lines ≡ r .lines →
-    s .figures ≡ r .figures →
-    s ≡ r
-sheet-same today game balls six eight lines figures =
-    λ i.
-    record {
-      today = today i;
-      game = game i;
-      balls = balls i;
-      six = six i;
-      eight = eight i;
-      lines = lines i;
-      figures = figures i;
-    }
 
 -- ---- Open
 
@@ -87,10 +51,9 @@ module _ (m : Model) (o : Operands) where
       ∙ ap (λ n. stakesHeld (m .game) (m .live) + n) (sold-held m o)
 
   sold-sheet : Orderly m → moved (sell o) (sheetFor m) ≡ sheetFor (ledgerAfter m (sell o))
-  unfolding moved sheetSell act sold tillOf
+  unfolding moved sheetSell onFigure act sold tillOf
   sold-sheet orderly =
-      sheet-same refl refl refl refl refl lines
-      (figures-same refl refl refl refl (sym sold-owed) (sym sold-kept) refl refl refl refl)
+      λ i. sheetWith (lines i) (tillFrom (withTaken (chargeOf o) (m .counters)) (sym sold-owed i) (sym sold-kept i) (tillOf m .pooled)) (sheetFor m)
     where
       lines : map (lineOf (m .game)) (m .live) ++ (newLine o (sheetFor m) ∷ []) ≡ map (lineOf (m .game)) (m .live ++ (soldTicket m o ∷ []))
       lines =
@@ -104,57 +67,31 @@ module _ (m : Model) (o : Operands) where
 -- ---- Cancel and Claim
 
 -- what is taken off a sum that it is a part of
-taken-off-sum : (whole rest part off : ℕ) → whole ≡ rest + part → off ≡ part → whole - off ≡ rest
-taken-off-sum whole rest part off parts same = omega arith
+taken-off-sum : {whole rest part off : ℕ} → whole ≡ rest + part → off ≡ part → whole - off ≡ rest
+taken-off-sum parts same = omega arith
 
 module _ (m : Model) (n : ℕ) (orderly : Orderly m) (here : hasTicket n (houseOf m .live) ≡ true) where
   cancelled-sheet : moved (cancel n) (sheetFor m) ≡ sheetFor (ledgerAfter m (cancel n))
-  unfolding moved sheetCancel act cancelled tillOf
+  unfolding moved sheetCancel onFigure act cancelled tillOf
   cancelled-sheet =
-      sheet-same refl refl refl refl refl (cancelled-lines m n (orderly .tickets))
-      (figures-same
-      refl
-      refl
-      refl
-      (ap (λ k. m .counters .refunded + k) (cancel-total m n orderly here))
-      (sym (cancel-owed m n))
-      (taken-off-sum
-      (stakesHeld (m .game) (m .live))
-      (stakesHeld (m .game) (changed n (cancelledTicket m) (m .live)))
-      (refundOf n (houseOf m))
-      (totalAt n (takenOff (sheetFor m)) (map (lineOf (m .game)) (m .live)))
-      (cancel-held m n orderly here)
-      (cancel-total m n orderly here))
-      refl
-      refl
-      refl
-      refl)
+      let refund = cancel-total m n orderly here in
+      λ i.
+      sheetWith (cancelled-lines m n (orderly .tickets) i)
+      (tillFrom (withRefunded (refund i) (m .counters)) (sym (cancel-owed m n) i) (taken-off-sum (cancel-held m n orderly here) refund i) (tillOf m .pooled))
+      (sheetFor m)
 
   cancelled-balance : Balanced (tillOf m) → Balanced (tillOf (ledgerAfter m (cancel n)))
   unfolding act cancelled tillOf
   cancelled-balance balance = omega (arith, balance, cancel-owed m n, cancel-held m n orderly here)
 
   claimed-sheet : moved (claim n) (sheetFor m) ≡ sheetFor (ledgerAfter m (claim n))
-  unfolding moved sheetClaim act claimed tillOf
+  unfolding moved sheetClaim onFigure act claimed tillOf
   claimed-sheet =
-      sheet-same refl refl refl refl refl (claimed-lines (m .game) n (m .live))
-      (figures-same
-      refl
-      refl
-      (ap (λ k. m .counters .paid + k) (claim-total m n orderly here))
-      refl
-      (taken-off-sum
-      (dues (m .live))
-      (dues (changed n (λ t. withDue t 0) (m .live)))
-      (ticketAt n (houseOf m .live) .due)
-      (totalAt n (λ l. l .due) (map (lineOf (m .game)) (m .live)))
-      (claim-owed m n orderly here)
-      (claim-total m n orderly here))
-      (sym (claim-held m n))
-      refl
-      refl
-      refl
-      refl)
+      let due = claim-total m n orderly here in
+      λ i.
+      sheetWith (claimed-lines (m .game) n (m .live) i)
+      (tillFrom (withPaid (due i) (m .counters)) (taken-off-sum (claim-owed m n orderly here) due i) (sym (claim-held m n) i) (tillOf m .pooled))
+      (sheetFor m)
 
   claimed-balance : Balanced (tillOf m) → Balanced (tillOf (ledgerAfter m (claim n)))
   unfolding act claimed tillOf
@@ -164,26 +101,13 @@ module _ (m : Model) (n : ℕ) (orderly : Orderly m) (here : hasTicket n (houseO
 
 module _ (m : Model) where
   expired-sheet : moved expire (sheetFor m) ≡ sheetFor (ledgerAfter m expire)
-  unfolding moved sheetExpire act expired tillOf
+  unfolding moved sheetExpire onFigure act expired tillOf
   expired-sheet =
-      sheet-same refl refl refl refl refl (expired-lines m)
-      (figures-same
-      refl
-      refl
-      refl
-      refl
-      (taken-off-sum
-      (dues (m .live))
-      (dues (map (λ t. cond (isExpired m t) (withDue t 0) t) (m .live)))
-      (dues (expiring (houseOf m)))
-      (sum (lateDues (sheetFor m)))
-      (expire-owed m)
-      (ap sum (late-dues m)))
-      (sym (expire-held m))
-      (ap (λ ds. m .counters .unclaimed + sum ds) (late-dues m))
-      refl
-      refl
-      refl)
+      let late = ap sum (late-dues m) in
+      λ i.
+      sheetWith (expired-lines m i)
+      (tillFrom (withUnclaimed (late i) (m .counters)) (taken-off-sum (expire-owed m) late i) (sym (expire-held m) i) (tillOf m .pooled))
+      (sheetFor m)
 
   expired-balance : Balanced (tillOf m) → Balanced (tillOf (ledgerAfter m expire))
   unfolding act expired tillOf
@@ -212,12 +136,14 @@ module _ (m : Model) (j cents : ℕ) where
       go false = omega arith
 
   transferred-sheet : (j ≡ 6) ⊎ (j ≡ 8) → moved (transfer j cents) (sheetFor m) ≡ sheetFor (ledgerAfter m (transfer j cents))
-  unfolding moved sheetTransfer act transferred tillOf
+  unfolding moved sheetTransfer onFigure act transferred tillOf
   transferred-sheet named =
-      sheet-same refl refl refl refl
-      (ap (λ b. cond b (primaryWith cents (m .eight)) (m .eight)) (other-jackpot j named) ∙ go (eqb j 6))
-      refl
-      (figures-same refl refl refl refl refl refl refl (sym transferred-pooled) refl refl)
+      let eight = ap (λ b. cond b (primaryWith cents (m .eight)) (m .eight)) (other-jackpot j named) ∙ go (eqb j 6) in
+      λ i.
+      poolsWith (moved (transfer j cents) (sheetFor m) .six) (eight i)
+      (sheetWith (sheetFor m .lines)
+      (tillFrom (withTransferred cents (m .counters)) (tillOf m .owed) (tillOf m .held) (sym transferred-pooled i))
+      (sheetFor m))
     where
       go : (six : Bool) →
           cond (not six) (primaryWith cents (m .eight)) (m .eight) ≡ cond six (m .eight) (withPrimary (m .eight) (m .eight .primary + cents))
@@ -236,38 +162,15 @@ twentieth-alike m b =
     sym (eqb·suc-suc (length (m .balls)) 19)
     ∙ ap (λ n. eqb n 20) (sym (length-append (m .balls) (b ∷ []) ∙ add-one (length (m .balls))))
 
--- the sheet after a settled game, from the settlement and the paid stakes
-settledBy : Sheet → List Line → Settled → ℕ → Sheet
-settledBy s lines r stakes =
-    let f = s .figures in
-    record {
-      today = s .today;
-      game = s .game + 1;
-      balls = [];
-      six = r .six;
-      eight = r .eight;
-      lines = lines;
-      figures =
-          record {
-            taken = f .taken;
-            seeds = f .seeds + r .seeds;
-            paid = f .paid;
-            refunded = f .refunded;
-            owed = f .owed + (r .prizes + r .shares);
-            held = f .held - stakes;
-            unclaimed = f .unclaimed;
-            pooled = f .pooled + (r .contributions + r .seeds) - (r .shares + r .repaid);
-            gained = f .gained + (stakes + r .repaid);
-            lost = f .lost + (r .contributions + r .prizes);
-          };
-    }
-
 module _ (m : Model) (b : ℕ) where
   abbrev result : Settled
   result = settlement b (houseOf m)
 
   abbrev ticketsThen : List Ticket
   ticketsThen = map (finishedOn (m .day) (m .game + 1)) (awarded (m .game) (result .awards) (m .live))
+
+  abbrev sheetThen : Sheet
+  sheetThen = sheetSettle (sheetSettlement b (sheetFor m)) (stakesPlayed (sheetFor m)) (sheetFor m)
 
   -- an award for each ticket that runs
   awards-given : length (result .awards) ≡ length (keep (runsIn (m .game)) (m .live))
@@ -300,7 +203,7 @@ module _ (m : Model) (b : ℕ) where
       (finishedOn (m .day) (m .game + 1))
       (finished-held (m .day) (m .game + 1) (m .game + 1))
       (awarded (m .game) (result .awards) (m .live))
-      ∙ ap sum (awarded-unmoved (m .game) (heldFor (m .game + 1)) (λ t cents. refl) (result .awards) (m .live))))
+      ∙ ap sum (awarded-keeps (heldFor (m .game + 1)) (λ t cents. refl) (m .game) (result .awards) (m .live))))
       (ap (λ ts. sum (map (paidStakes (m .game) (m .game + 1)) ts)) (sym (running-live (m .game) (m .live))))
 
   settled-pools :
@@ -310,31 +213,23 @@ module _ (m : Model) (b : ℕ) where
   settled-pools =
       pools-balance (record { balls = ballsWith b m }) (m .six) (m .eight) (map (entryOf (m .game)) (runningIn (houseOf m)))
 
-  settled-sheet : Orderly m → sheetSettle b (sheetFor m) ≡ sheetFor (withLive (gameSettled b (houseOf m)) ticketsThen)
-  unfolding sheetSettle gameSettled tillOf settledBy
+  settled-sheet : Orderly m → sheetThen ≡ sheetFor (withLive (gameSettled b (houseOf m)) ticketsThen)
+  unfolding sheetSettle onFigure gameSettled tillOf
   settled-sheet orderly =
-      ap₂ (λ r stakes. settledBy (sheetFor m) (settleLines (m .day) (m .game) (r .awards) (map (lineOf (m .game)) (m .live))) r stakes)
-      (settlements-alike m b orderly)
-      (stakes-alike m orderly)
-      ∙ sheet-same refl refl refl refl refl
-      (settled-lines (m .day) (m .game) (result .awards) (m .live) (orderly .tickets) awards-given)
-      (figures-same
-      refl
-      refl
-      refl
-      refl
-      (sym settled-owed)
-      (taken-off-sum
-      (stakesHeld (m .game) (m .live))
-      (stakesHeld (m .game + 1) ticketsThen)
-      (stakesDrawn (houseOf m))
-      (stakesDrawn (houseOf m))
-      settled-held
-      refl)
-      refl
-      (omega (arith, settled-pools))
-      (omega arith)
-      (omega arith))
+      ap₂ (λ r stakes. sheetSettle r stakes (sheetFor m)) (settlements-alike m b orderly) (stakes-alike m orderly)
+      ∙ (λ i.
+      gameWith (m .game + 1) []
+      (poolsWith (result .six) (result .eight)
+      (sheetWith (settled-lines (m .day) (m .game) (result .awards) (m .live) (orderly .tickets) awards-given i)
+      (tillFrom (counters i) (sym settled-owed i) (taken-off-sum settled-held refl i) (pools i))
+      (sheetFor m))))
+    where
+      counters : withSeeds (result .seeds) (withGained (stakesDrawn (houseOf m) + result .repaid) (withLost (result .contributions + result .prizes) (m .counters)))
+          ≡ afterGame (stakesDrawn (houseOf m)) result (m .counters)
+      counters = simp add-assoc
+
+      pools : tillOf m .pooled + (result .contributions + result .seeds) - (result .shares + result .repaid) ≡ pooled (result .six) + pooled (result .eight)
+      pools = omega (arith, settled-pools)
 
   settled-balance : Balanced (tillOf m) → Balanced (tillOf (withLive (gameSettled b (houseOf m)) ticketsThen))
   unfolding gameSettled tillOf
@@ -346,9 +241,9 @@ module _ (m : Model) (b : ℕ) where
   ball-sheet : Orderly m → moved (ball b) (sheetFor m) ≡ sheetFor (ledgerAfter m (ball b))
   unfolding moved sheetBall act ballEntered tillOf
   ball-sheet orderly =
-      ap (λ last. cond last (sheetSettle b (sheetFor m)) (sheetFor (ledgerThen false))) (twentieth-alike m b) ∙ go (settles b m)
+      ap (λ last. cond last sheetThen (sheetFor (ledgerThen false))) (twentieth-alike m b) ∙ go (settles b m)
     where
-      go : (last : Bool) → cond last (sheetSettle b (sheetFor m)) (sheetFor (ledgerThen false)) ≡ sheetFor (ledgerThen last)
+      go : (last : Bool) → cond last sheetThen (sheetFor (ledgerThen false)) ≡ sheetFor (ledgerThen last)
       go true = settled-sheet orderly
       go false = refl
 

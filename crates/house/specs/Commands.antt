@@ -17,7 +17,7 @@ use Rattle.prizes.specs.declared.jackpot.Jackpot.{Jackpot}
 pub use Rattle.house.specs.declared.answer.Answer.{Answer}
 pub use Rattle.house.specs.Command.{Command, open′, sell, cancel, ball, claim, expire, transfer}
 use Rattle.house.specs.Tickets.{Ticket, termsOf, runsIn, isFinished, isLive, paidStakes, entryOf, kenoToGoBegun, withDue, withStop, withFinishedDay}
-use Rattle.house.specs.Model.{Model, Counters, ticketLimit, gameLimit, liveLimit, isDrawing, nextGame, withTickets, withMoney, withTaken, withPaid, withRefunded, withUnclaimed, withTransferred}
+use Rattle.house.specs.Model.{Model, Counters, ticketLimit, gameLimit, liveLimit, isDrawing, nextGame, withTickets, withMoney, withTaken, withSeeds, withPaid, withRefunded, withUnclaimed, withTransferred, withGained, withLost}
 
 -- ---- tickets by number
 
@@ -196,15 +196,7 @@ stakesDrawn m = sum (map (paidStakes (m .game) (m .game + 1)) (runningIn m))
 -- seeds, and what the house gains and loses by a drawn game
 abbrev pub afterGame : ℕ → Settled → Counters → Counters
 afterGame stakes s c =
-    record {
-      taken = c .taken;
-      seeds = c .seeds + s .seeds;
-      paid = c .paid;
-      refunded = c .refunded;
-      unclaimed = c .unclaimed;
-      gained = c .gained + stakes + s .repaid;
-      lost = c .lost + s .contributions + s .prizes;
-    }
+    withSeeds (s .seeds) (withGained (s .repaid) (withGained stakes (withLost (s .prizes) (withLost (s .contributions) c))))
 
 unfoldable pub gameSettled : ℕ → Model → Model
 gameSettled b m =

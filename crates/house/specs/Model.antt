@@ -7,17 +7,8 @@ use lib.Dec.{eqb}
 use lib.ListN.{length}
 use Rattle.prizes.specs.Jackpots.{guaranteeOfSix, guaranteeOfEight, freshJackpot}
 use Rattle.prizes.specs.declared.jackpot.Jackpot.{Jackpot}
+pub use Rattle.house.specs.declared.state.Counters.{Counters}
 use Rattle.house.specs.Tickets.{Ticket}
-
--- the figures of the till that no ticket or pool tells; retained is gained less lost
-pub record Counters : Type 0 where
-  pub taken : ℕ
-  pub seeds : ℕ
-  pub paid : ℕ
-  pub refunded : ℕ
-  pub unclaimed : ℕ
-  pub gained : ℕ
-  pub lost : ℕ
 
 pub record Model : Type 0 where
   pub day : ℕ
@@ -29,6 +20,7 @@ pub record Model : Type 0 where
   pub live : List Ticket
   pub six : Jackpot
   pub eight : Jackpot
+  -- the figures of the till that no ticket or pool tells; retained is gained less lost
   pub counters : Counters
 
 abbrev pub ticketLimit : ℕ
@@ -76,6 +68,10 @@ module _ (cents : ℕ) (c : Counters) where
   withTaken =
       record { taken = c .taken + cents; seeds = c .seeds; paid = c .paid; refunded = c .refunded; unclaimed = c .unclaimed; gained = c .gained; lost = c .lost }
 
+  abbrev pub withSeeds : Counters
+  withSeeds =
+      record { taken = c .taken; seeds = c .seeds + cents; paid = c .paid; refunded = c .refunded; unclaimed = c .unclaimed; gained = c .gained; lost = c .lost }
+
   abbrev pub withPaid : Counters
   withPaid =
       record { taken = c .taken; seeds = c .seeds; paid = c .paid + cents; refunded = c .refunded; unclaimed = c .unclaimed; gained = c .gained; lost = c .lost }
@@ -91,3 +87,11 @@ module _ (cents : ℕ) (c : Counters) where
   abbrev pub withTransferred : Counters
   withTransferred =
       record { taken = c .taken; seeds = c .seeds; paid = c .paid; refunded = c .refunded; unclaimed = c .unclaimed - cents; gained = c .gained; lost = c .lost }
+
+  abbrev pub withGained : Counters
+  withGained =
+      record { taken = c .taken; seeds = c .seeds; paid = c .paid; refunded = c .refunded; unclaimed = c .unclaimed; gained = c .gained + cents; lost = c .lost }
+
+  abbrev pub withLost : Counters
+  withLost =
+      record { taken = c .taken; seeds = c .seeds; paid = c .paid; refunded = c .refunded; unclaimed = c .unclaimed; gained = c .gained; lost = c .lost + cents }

@@ -58,10 +58,53 @@ freshSheet =
       };
     }
 
--- the same sheet with other lines and figures
-abbrev pub sheetWith : Sheet → List Line → Figures → Sheet
-sheetWith s lines figures =
+-- ---- the same sheet but for what is named
+
+abbrev pub sheetWith : List Line → Figures → Sheet → Sheet
+sheetWith lines figures s =
     record { today = s .today; game = s .game; balls = s .balls; six = s .six; eight = s .eight; lines = lines; figures = figures }
+
+abbrev pub gameWith : ℕ → List ℕ → Sheet → Sheet
+gameWith game balls s =
+    record { today = s .today; game = game; balls = balls; six = s .six; eight = s .eight; lines = s .lines; figures = s .figures }
+
+abbrev pub poolsWith : Jackpot → Jackpot → Sheet → Sheet
+poolsWith six eight s =
+    record { today = s .today; game = s .game; balls = s .balls; six = six; eight = eight; lines = s .lines; figures = s .figures }
+
+-- ---- what figures gain and lose
+
+-- the figures by name; retained is gained less lost
+pub data Figure : Type 0 where
+  taken seeds paid refunded owed held unclaimed pooled gained lost : Figure
+  deriving Discrete as sameFigure
+
+-- the figures with a change made to one of them
+unfoldable pub onFigure : Figure → (ℕ → ℕ) → Figures → Figures
+onFigure x change f =
+    let next : Figure → ℕ → ℕ = λ y cents. elim (sameFigure x y) [ yes same ↦ change cents | no other ↦ cents ] in
+    record {
+      taken = next taken (f .taken);
+      seeds = next seeds (f .seeds);
+      paid = next paid (f .paid);
+      refunded = next refunded (f .refunded);
+      owed = next owed (f .owed);
+      held = next held (f .held);
+      unclaimed = next unclaimed (f .unclaimed);
+      pooled = next pooled (f .pooled);
+      gained = next gained (f .gained);
+      lost = next lost (f .lost);
+    }
+
+abbrev pub gains : Figure → ℕ → Figures → Figures
+gains x cents f = onFigure x (λ n. n + cents) f
+
+abbrev pub loses : Figure → ℕ → Figures → Figures
+loses x cents f = onFigure x (λ n. n - cents) f
+
+-- cents go from one figure to another
+abbrev pub moves : Figure → Figure → ℕ → Figures → Figures
+moves from to cents f = gains to cents (loses from cents f)
 
 -- ---- lines
 
@@ -89,8 +132,8 @@ unfoldable pub leftWith : ℕ → List ℕ → Line → Line
 leftWith today left l =
     record { number = l .number; operands = l .operands; first = l .first; left = left; due = l .due; finishingDay = cond (eqb (length left) 0 && not (eqb (length (l .left)) 0)) today (l .finishingDay) }
 
-abbrev pub dueOf : ℕ → Line → Line
-dueOf cents l =
+abbrev pub dueWith : ℕ → Line → Line
+dueWith cents l =
     record { number = l .number; operands = l .operands; first = l .first; left = l .left; due = cents; finishingDay = l .finishingDay }
 
 unfoldable pub onLine : ℕ → (Line → Line) → List Line → List Line
@@ -116,22 +159,7 @@ newLine o s =
     record { number = length (s .lines) + 1; operands = o; first = first; left = gamesFrom first (o .games); due = 0; finishingDay = 0 }
 
 unfoldable pub sheetSell : Operands → Sheet → Sheet
-sheetSell o s =
-    let f = s .figures in
-    sheetWith s
-    (s .lines ++ (newLine o s ∷ []))
-    (record {
-      taken = f .taken + chargeOf o;
-      seeds = f .seeds;
-      paid = f .paid;
-      refunded = f .refunded;
-      owed = f .owed;
-      held = f .held + chargeOf o;
-      unclaimed = f .unclaimed;
-      pooled = f .pooled;
-      gained = f .gained;
-      lost = f .lost;
-    })
+sheetSell o s = sheetWith (s .lines ++ (newLine o s ∷ [])) (gains taken (chargeOf o) (gains held (chargeOf o) (s .figures))) s
 
 -- "Cancel takes off the line's games left, but not the current one when drawing. Their paid stakes go from held to refunded."
 abbrev pub stays : Sheet → ℕ → Bool
@@ -142,26 +170,18 @@ takenOff s l = stakesOf l (keep (λ g. not (stays s g)) (l .left))
 
 unfoldable pub sheetCancel : ℕ → Sheet → Sheet
 sheetCancel n s =
-    let f = s .figures in
-    let back = totalAt n (takenOff s) (s .lines) in
-    sheetWith s
+    sheetWith
     (onLine n (λ l. leftWith (s .today) (keep (stays s) (l .left)) l) (s .lines))
-    (record {
-      taken = f .taken;
-      seeds = f .seeds;
-      paid = f .paid;
-      refunded = f .refunded + back;
-      owed = f .owed;
-      held = f .held - back;
-      unclaimed = f .unclaimed;
-      pooled = f .pooled;
-      gained = f .gained;
-      lost = f .lost;
-    })
+    (moves held refunded (totalAt n (takenOff s) (s .lines)) (s .figures))
+    s
 
 -- "Ball adds the number. The twentieth settles every line with that game left, by Prizes and Jackpots."
 abbrev pub playing : Sheet → List Line
 playing s = keep (λ l. member (s .game) (l .left)) (s .lines)
+
+-- the paid stakes of the game that is drawn
+abbrev pub stakesPlayed : Sheet → ℕ
+stakesPlayed s = sum (map (λ l. stakesOf l (s .game ∷ [])) (playing s))
 
 unfoldable pub sheetSettlement : ℕ → Sheet → Settled
 sheetSettlement b s =
@@ -173,64 +193,41 @@ settleLines today game awards [] = []
 settleLines today game [] (l ∷ ls) = l ∷ settleLines today game [] ls
 settleLines today game (a ∷ awards) (l ∷ ls) =
     cond (member game (l .left))
-    (leftWith today (keep (λ g. not (eqb g game)) (l .left)) (dueOf (l .due + a) l) ∷ settleLines today game awards ls)
+    (leftWith today (keep (λ g. not (eqb g game)) (l .left)) (dueWith (l .due + a) l) ∷ settleLines today game awards ls)
     (l ∷ settleLines today game (a ∷ awards) ls)
 
 -- "[..] and owed. Held loses the paid stakes. Seeds gains the seeds. Pooled gains contributions and seeds, less shares and money paid back.
--- Retained gains the paid stakes and money paid back, less contributions and prizes. [..] the next is current, without balls."
-unfoldable pub sheetSettle : ℕ → Sheet → Sheet
-sheetSettle b s =
-    let f = s .figures in
-    let r = sheetSettlement b s in
-    let stakes = sum (map (λ l. stakesOf l (s .game ∷ [])) (playing s)) in
-    record {
-      today = s .today;
-      game = s .game + 1;
-      balls = [];
-      six = r .six;
-      eight = r .eight;
-      lines = settleLines (s .today) (s .game) (r .awards) (s .lines);
-      figures = record {
-        taken = f .taken;
-        seeds = f .seeds + r .seeds;
-        paid = f .paid;
-        refunded = f .refunded;
-        owed = f .owed + (r .prizes + r .shares);
-        held = f .held - stakes;
-        unclaimed = f .unclaimed;
-        pooled = f .pooled + (r .contributions + r .seeds) - (r .shares + r .repaid);
-        gained = f .gained + (stakes + r .repaid);
-        lost = f .lost + (r .contributions + r .prizes);
-      };
-    }
+-- Retained gains the paid stakes and money paid back, less contributions and prizes."
+abbrev pub settleFigures : Settled → ℕ → Figures → Figures
+settleFigures r stakes f =
+    gains owed (r .prizes + r .shares)
+    (loses held stakes
+    (gains seeds (r .seeds)
+    (loses pooled (r .shares + r .repaid)
+    (gains pooled (r .contributions + r .seeds)
+    (gains gained (stakes + r .repaid)
+    (gains lost (r .contributions + r .prizes) f))))))
+
+-- "[..] the next is current, without balls."
+unfoldable pub sheetSettle : Settled → ℕ → Sheet → Sheet
+sheetSettle r stakes s =
+    gameWith (s .game + 1) []
+    (poolsWith (r .six) (r .eight)
+    (sheetWith (settleLines (s .today) (s .game) (r .awards) (s .lines)) (settleFigures r stakes (s .figures)) s))
 
 abbrev pub twentieth : Sheet → Bool
 twentieth s = eqb (length (s .balls)) 19
 
 unfoldable pub sheetBall : ℕ → Sheet → Sheet
 sheetBall b s =
-    cond (twentieth s) (sheetSettle b s)
-    (record { today = s .today; game = s .game; balls = s .balls ++ (b ∷ []); six = s .six; eight = s .eight; lines = s .lines; figures = s .figures })
+    cond (twentieth s)
+    (sheetSettle (sheetSettlement b s) (stakesPlayed s) s)
+    (gameWith (s .game) (s .balls ++ (b ∷ [])) s)
 
 -- "Claim moves the line's due from owed to paid. [..] A due that was moved is 0."
 unfoldable pub sheetClaim : ℕ → Sheet → Sheet
 sheetClaim n s =
-    let f = s .figures in
-    let due = totalAt n (λ l. l .due) (s .lines) in
-    sheetWith s
-    (onLine n (dueOf 0) (s .lines))
-    (record {
-      taken = f .taken;
-      seeds = f .seeds;
-      paid = f .paid + due;
-      refunded = f .refunded;
-      owed = f .owed - due;
-      held = f .held;
-      unclaimed = f .unclaimed;
-      pooled = f .pooled;
-      gained = f .gained;
-      lost = f .lost;
-    })
+    sheetWith (onLine n (dueWith 0) (s .lines)) (moves owed paid (totalAt n (λ l. l .due) (s .lines)) (s .figures)) s
 
 -- "Expire moves, from owed to unclaimed, each due above 0 of a line with no game left and finishing day + 365 less than today."
 unfoldable pub tooLate : Sheet → Line → Bool
@@ -241,21 +238,7 @@ lateDues s = map (λ l. l .due) (keep (tooLate s) (s .lines))
 
 unfoldable pub sheetExpire : Sheet → Sheet
 sheetExpire s =
-    let f = s .figures in
-    sheetWith s
-    (map (λ l. cond (tooLate s l) (dueOf 0 l) l) (s .lines))
-    (record {
-      taken = f .taken;
-      seeds = f .seeds;
-      paid = f .paid;
-      refunded = f .refunded;
-      owed = f .owed - sum (lateDues s);
-      held = f .held;
-      unclaimed = f .unclaimed + sum (lateDues s);
-      pooled = f .pooled;
-      gained = f .gained;
-      lost = f .lost;
-    })
+    sheetWith (map (λ l. cond (tooLate s l) (dueWith 0 l) l) (s .lines)) (moves owed unclaimed (sum (lateDues s)) (s .figures)) s
 
 -- "Transfer moves the cents from unclaimed to that primary and to pooled."
 abbrev pub primaryWith : ℕ → Jackpot → Jackpot
@@ -264,27 +247,10 @@ primaryWith cents j =
 
 unfoldable pub sheetTransfer : ℕ → ℕ → Sheet → Sheet
 sheetTransfer j cents s =
-    let f = s .figures in
-    record {
-      today = s .today;
-      game = s .game;
-      balls = s .balls;
-      six = cond (eqb j 6) (primaryWith cents (s .six)) (s .six);
-      eight = cond (eqb j 8) (primaryWith cents (s .eight)) (s .eight);
-      lines = s .lines;
-      figures = record {
-        taken = f .taken;
-        seeds = f .seeds;
-        paid = f .paid;
-        refunded = f .refunded;
-        owed = f .owed;
-        held = f .held;
-        unclaimed = f .unclaimed - cents;
-        pooled = f .pooled + cents;
-        gained = f .gained;
-        lost = f .lost;
-      };
-    }
+    poolsWith
+    (cond (eqb j 6) (primaryWith cents (s .six)) (s .six))
+    (cond (eqb j 8) (primaryWith cents (s .eight)) (s .eight))
+    (sheetWith (s .lines) (moves unclaimed pooled cents (s .figures)) s)
 
 -- ---- a command and its code
 

@@ -122,5 +122,5 @@ view h words marks =
       live = map (ticketIn words marks) (below (h .live));
       six = h .six;
       eight = h .eight;
-      counters = record { taken = h .counters .taken; seeds = h .counters .seeds; paid = h .counters .paid; refunded = h .counters .refunded; unclaimed = h .counters .unclaimed; gained = h .counters .gained; lost = h .counters .lost };
+      counters = h .counters;
     }

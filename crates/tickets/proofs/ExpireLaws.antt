@@ -14,7 +14,7 @@ use borrow.Author.Tests.{eq-eqb, ne-eqb, lt-ltb, le-ltb, leb-true, leb-false, eq
 use Rattle.sale.specs.Lists.{sum, keep}
 use Rattle.sale.specs.Checks.{firstMet}
 use Rattle.house.specs.Tickets.{Ticket, gamesLeft, isLive, withDue}
-use Rattle.house.specs.Model.{Model, fresh}
+use Rattle.house.specs.Model.{Model, fresh, withUnclaimed}
 use Rattle.house.specs.Commands.{blankTicket, expire, rowsOf, codeOf, stillLive, isExpired, expiring, expired}
 use Rattle.house.specs.View.{ticketsOf, view}
 use Rattle.tickets.specs.Steps.{Swept}
@@ -219,7 +219,7 @@ module _ (m : Model) where
 -- the struct with so many tickets left, and the dues of the others unclaimed
 abbrev pub expiredHouse : House → ℕ → ℕ → House
 expiredHouse h left cents =
-    record { day = h .day; game = h .game; balls = h .balls; drawn = h .drawn; issued = h .issued; live = left; six = h .six; eight = h .eight; counters = record { taken = h .counters .taken; seeds = h .counters .seeds; paid = h .counters .paid; refunded = h .counters .refunded; unclaimed = h .counters .unclaimed + cents; gained = h .counters .gained; lost = h .counters .lost } }
+    record { day = h .day; game = h .game; balls = h .balls; drawn = h .drawn; issued = h .issued; live = left; six = h .six; eight = h .eight; counters = withUnclaimed cents (h .counters) }
 
 module _ (h : House) (words marks : List ℕ) (sure : Sure (view h words marks)) (words′ marks′ : List ℕ) (left cents : ℕ) (swept : Swept (view h words marks) words′ marks′ left cents) where
   pub house-expired : view (expiredHouse h left cents) words′ marks′ ≡ expired (view h words marks)

@@ -13,7 +13,7 @@ use Rattle.sale.specs.Checks.{Operands, firstMet, operandRows, operandCode, way
 use Rattle.sale.specs.Kinds.{jackpotBy}
 use Rattle.sale.specs.declared.check.Quote.{Quote}
 use Rattle.house.specs.Tickets.{Ticket, termsOf}
-use Rattle.house.specs.Model.{Model, gameLimit, liveLimit, ticketLimit, isDrawing, nextGame}
+use Rattle.house.specs.Model.{Model, gameLimit, liveLimit, ticketLimit, isDrawing, nextGame, withTaken}
 use Rattle.house.specs.Commands.{sell, rowsOf, codeOf, soldTicket, sold}
 use Rattle.house.specs.View.{ticketsOf, view}
 use Rattle.house.specs.declared.state.House.{House}
@@ -126,7 +126,7 @@ next-within m = cond-either (λ g. g ≤ m .game + 1) (isDrawing m) (omega arith
 -- the struct with a charge taken for one ticket more
 abbrev pub soldHouse : House → ℕ → House
 soldHouse h charge =
-    record { day = h .day; game = h .game; balls = h .balls; drawn = h .drawn; issued = h .issued + 1; live = h .live + 1; six = h .six; eight = h .eight; counters = record { taken = h .counters .taken + charge; seeds = h .counters .seeds; paid = h .counters .paid; refunded = h .counters .refunded; unclaimed = h .counters .unclaimed; gained = h .counters .gained; lost = h .counters .lost } }
+    record { day = h .day; game = h .game; balls = h .balls; drawn = h .drawn; issued = h .issued + 1; live = h .live + 1; six = h .six; eight = h .eight; counters = withTaken charge (h .counters) }
 
 module _ (h : House) (words marks : List ℕ) (o : Operands) where
   pub ticket-sold :

@@ -11,6 +11,7 @@ use borrow.Author.Needs.{needs}
 use Rattle.sale.specs.Price.{chargeLimit}
 use Rattle.sale.specs.Checks.{firstMet}
 use Rattle.house.specs.Tickets.{Ticket, paidStakes, withStop}
+use Rattle.house.specs.Model.{withRefunded}
 use Rattle.house.specs.Commands.{changed, stillLive, finishedOn, lookupRows, cancelStop, cancelledTicket, cancel, rowsOf, codeOf, refundOf, cancelled, act, reply}
 use Rattle.house.specs.Till.{tillOf}
 use Rattle.house.specs.View.{rowOf, marksAt, ticketFrom, ticketIn, ticketsOf, view}
@@ -41,7 +42,7 @@ paidBack h live cents =
       live = live;
       six = h .six;
       eight = h .eight;
-      counters = record { taken = h .counters .taken; seeds = h .counters .seeds; paid = h .counters .paid; refunded = h .counters .refunded + cents; unclaimed = h .counters .unclaimed; gained = h .counters .gained; lost = h .counters .lost };
+      counters = withRefunded cents (h .counters);
     }
 
 -- what the code that works out a refund asks of the row

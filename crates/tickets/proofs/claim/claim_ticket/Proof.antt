@@ -9,6 +9,7 @@ use lib.ListN.{take}
 use borrow.Author.Needs.{needs}
 use Rattle.sale.specs.Checks.{firstMet}
 use Rattle.house.specs.Tickets.{Ticket, gamesLeft, isFinished, isLive, withDue}
+use Rattle.house.specs.Model.{withPaid}
 use Rattle.house.specs.Commands.{ticketAt, changed, stillLive, lookupRows, claim, rowsOf, codeOf, claimed, act, reply}
 use Rattle.house.specs.Till.{tillOf}
 use Rattle.house.specs.View.{marksAt, ticketFrom, ticketIn, ticketsOf, without, view}
@@ -41,7 +42,7 @@ paidOut h due =
       live = h .live - 1;
       six = h .six;
       eight = h .eight;
-      counters = record { taken = h .counters .taken; seeds = h .counters .seeds; paid = h .counters .paid + due; refunded = h .counters .refunded; unclaimed = h .counters .unclaimed; gained = h .counters .gained; lost = h .counters .lost };
+      counters = withPaid due (h .counters);
     }
 
 module _ {h : House} {words marks : List ℕ} {n p : ℕ} (found : FoundTicket h words marks n p) where
