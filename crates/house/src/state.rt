@@ -39,6 +39,9 @@ impl House {
     // The guarantee of the jackpot for 8 numbers, in cents.
     pub const GUARANTEE_OF_EIGHT: u64 = 1_250_000;
 
+    // The seeds that a fresh house has put into the primaries, in cents.
+    pub const FRESH_SEEDS: u64 = House::GUARANTEE_OF_SIX + House::GUARANTEE_OF_EIGHT;
+
     // The most live tickets.
     pub const LIVE_LIMIT: u64 = 200;
 
@@ -65,7 +68,7 @@ impl House {
             eight,
             counters: Counters {
                 taken: 0,
-                seeds: House::GUARANTEE_OF_SIX + House::GUARANTEE_OF_EIGHT,
+                seeds: House::FRESH_SEEDS,
                 paid: 0,
                 refunded: 0,
                 unclaimed: 0,
