@@ -13,14 +13,14 @@ use Rattle.house.specs.Tickets.{Ticket, isFinished, isLive, paidStakes, 
 use Rattle.house.specs.Model.{Model, nextGame}
 use Rattle.house.specs.Commands.{Command, sell, cancel, ball, claim, replies, ticketAt, stillLive, runningIn, finishedOn, cancelStop, cancelledTicket, codeOf, refundOf, sold, cancelled, gameSettled, ballEntered, claimed, act, reply, step}
 use Rattle.house.specs.Till.{tillOf}
-use Rattle.house.specs.Claims.{sheetOf, accepted, isClaimOf, gameOf, spanOf, gamesOf, wonBy}
+use Rattle.house.specs.Claims.{sheetOf, gameOf, gamesOf, spanOf, wonBy, payments}
 use Rattle.house.specs.Balance.{run, answerAfter, Reached, Balanced}
 use Rattle.house.proofs.Ledger.{houseOf}
 use Rattle.house.proofs.Refusals.{cancel-accepted}
 use Rattle.house.proofs.SpanLaws.{stakes-split}
 use Rattle.house.proofs.LiveTickets.{next-game-least}
 use Rattle.house.proofs.Numbered.{found}
-use Rattle.house.proofs.Won.{TicketTold, claim-due}
+use Rattle.house.proofs.Won.{RunsBy, TicketTold, claim-due}
 use Rattle.house.proofs.Theorem.{Booked, booked, reached-booked, till-balances}
 -- the laws of one command, which other crates cite from here
 pub use Rattle.house.proofs.OneCommand.{refused-unchanged, accepted-done, accepted-code, twentieth-settles, earlier-waits}
@@ -42,8 +42,8 @@ writers cs o ok =
 
 -- what an accepted Cancel of ticket number n, which is t, pays back after some commands
 pub record Refunded (cs : List Command) (m : Model) (n : ℕ) (t : Ticket) : Type 0 where
-  -- the games that the ticket has, told from the commands and their codes
-  pub span : spanOf n (run cs .log) ≡ record { first = t .first; stop = t .stop }
+  -- the games that the ticket has from the current one on, told from the commands and their codes
+  pub games : RunsBy (m .game) (spanOf n (run cs .log)) (t .first) (t .stop)
   -- Cancel takes off every game of these that is neither drawn nor being drawn, and there are such games
   pub undrawn : cancelStop m t ≡ max (t .first) (nextGame m)
   pub some : cancelStop m t < t .stop
@@ -89,18 +89,18 @@ module _ (m : Model) (t : Ticket) (some : cancelStop m t < t .stop) where
       stakes-split (max (t .first) (m .game)) (cancelStop m t) (t .stop) t (omega (arith, next-game-least m))
       ∙ ap (λ k. k + paidStakes (cancelStop m t) (t .stop) t) (ap (λ stop. paidStakes (max (t .first) (m .game)) stop t) cut-off ∙ sym held-left)
 
--- the span of a live ticket is told by the log
-told-span : (m : Model) (cs : List Command) (n : ℕ) → Booked m (run cs .log) → codeOf m (cancel n) ≡ 0
-    → spanOf n (run cs .log) ≡ record { first = ticketAt n (m .live) .first; stop = ticketAt n (m .live) .stop }
+-- the games of a live ticket are told by the log
+told-games : (m : Model) (cs : List Command) (n : ℕ) → Booked m (run cs .log) → codeOf m (cancel n) ≡ 0
+    → RunsBy (m .game) (spanOf n (run cs .log)) (ticketAt n (m .live) .first) (ticketAt n (m .live) .stop)
 unfolding stillLive
-told-span m cs n b e =
+told-games m cs n b e =
     let ledger = b .ledger in
     let here = cancel-accepted (houseOf ledger) n (sym (ap (λ h. codeOf h (cancel n)) (b .house)) ∙ e) .here in
     let told = found n (TicketTold (ledger .game) (run cs .log)) (isLive (ledger .game)) (ledger .live) (b .told .tickets) here in
-    subst⁻¹ (λ (h : Model). spanOf n (run cs .log) ≡ record { first = ticketAt n (h .live) .first; stop = ticketAt n (h .live) .stop }) (b .house)
+    subst⁻¹ (λ (h : Model). RunsBy (h .game) (spanOf n (run cs .log)) (ticketAt n (h .live) .first) (ticketAt n (h .live) .stop)) (b .house)
     (subst
-    (λ (k : ℕ). spanOf k (run cs .log) ≡ record { first = ticketAt n (houseOf ledger .live) .first; stop = ticketAt n (houseOf ledger .live) .stop })
-    (told .1) (told .0 .span))
+    (λ (k : ℕ). RunsBy (ledger .game) (spanOf k (run cs .log)) (ticketAt n (houseOf ledger .live) .first) (ticketAt n (houseOf ledger .live) .stop))
+    (told .1) (told .0 .runs))
 
 pub runners :
     (cs : List Command) (n : ℕ)
@@ -113,7 +113,7 @@ runners cs n ok =
     let some = cancel-accepted m n e .some in
     let done = accepted-done m (cancel n) e in
     record {
-      span = told-span m cs n (booked cs) e;
+      games = told-games m cs n (booked cs) e;
       undrawn = refl;
       some = some;
       stops = stops-there m (ticketAt n (m .live)) some;
@@ -149,13 +149,13 @@ draw-hand cs b ok =
 
 -- ---- "Cashiers pay what a claim says, and rely on it being everything that ticket won."
 
--- an accepted claim answers everything that the ticket's drawn games won, and no claim of it was accepted before
+-- an accepted claim answers everything that the ticket's drawn games won, and the ticket was not paid before
 pub cashiers :
     (cs : List Command) (n : ℕ)
     → answerAfter cs (claim n) .code ≡ 0
     → (answerAfter cs (claim n) ≡ replies n (wonBy n (run cs .log)))
     × (step (run cs .house) (claim n) .house .counters .paid ≡ run cs .house .counters .paid + wonBy n (run cs .log))
-    × (accepted (isClaimOf n) (run cs .log) ≡ 0)
+    × (payments n (run cs .log) ≡ 0)
 unfolding act reply claimed
 cashiers cs n ok =
     let m = run cs .house in

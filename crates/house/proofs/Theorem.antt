@@ -20,8 +20,8 @@ use Rattle.house.proofs.SheetFigures.{till-of-house}
 use Rattle.house.proofs.SheetSteps.{sheet-after, balanced-after}
 use Rattle.house.proofs.SheetAnswers.{answers-agree, balanced-fresh}
 use Rattle.house.proofs.LogLaws.{logged}
-use Rattle.house.proofs.Won.{Told, told-fresh, told-refused, told-after, claimed-once, claim-pays}
-use Rattle.house.proofs.Players.{Unsold, unsold-fresh, unsold-refused, unsold-after, house-players, sheet-players}
+use Rattle.house.proofs.Won.{Told, told-fresh, told-refused, told-after, claim-pays}
+use Rattle.house.proofs.Players.{house-players, sheet-players}
 use Rattle.house.proofs.Bounded.{Bounded, bounded-fresh, bounded-after}
 use Rattle.house.proofs.OneCommand.{refused-unchanged, accepted-done, accepted-code}
 
@@ -31,7 +31,6 @@ pub record Booked (h : Model) (log : Log) : Type 0 where
   pub house : h ≡ houseOf ledger
   pub orderly : Orderly ledger
   pub told : Told ledger log
-  pub unsold : Unsold log
   pub balanced : Balanced (tillOf ledger)
   pub bounded : Bounded ledger
 
@@ -43,7 +42,6 @@ booked-fresh =
       house = refl;
       orderly = orderly-fresh;
       told = told-fresh;
-      unsold = unsold-fresh;
       balanced = balanced-fresh;
       bounded = bounded-fresh;
     }
@@ -79,7 +77,6 @@ module _ (h : Model) (log : Log) (c : Command) (b : Booked h log) where
         house = ap (λ m. act m c) (b .house) ∙ house-after before c (b .orderly) there;
         orderly = orderly-after before c (b .orderly) there;
         told = told-after before log c (b .orderly) (b .told) there (fed accepted);
-        unsold = unsold-after before log c (b .told) there (b .unsold);
         balanced = balanced-after before c (b .orderly) there (b .balanced);
         bounded = bounded-after before c (b .orderly) (b .bounded) there (live-after before c (b .orderly) there);
       }
@@ -91,7 +88,6 @@ module _ (h : Model) (log : Log) (c : Command) (b : Booked h log) where
         house = b .house;
         orderly = b .orderly;
         told = told-refused before log c (codeOf h c) refused (b .told);
-        unsold = unsold-refused log c (codeOf h c) refused (b .unsold);
         balanced = b .balanced;
         bounded = b .bounded;
       }
@@ -142,8 +138,8 @@ claim-in h log n b accepted =
 players-in : (h : Model) (log : Log) → Booked h log
     → PlaysExactly log (map (λ t. t .number) (runningIn h)) × PlaysExactly log (map (λ l. l .number) (playing (sheetOf log)))
 players-in h log b = (
-  subst⁻¹ (λ m. PlaysExactly log (map (λ t. t .number) (runningIn m))) (b .house) (house-players (b .ledger) log (b .orderly) (b .told) (b .unsold)),
-  sheet-players (b .ledger) log (b .orderly) (b .told) (b .unsold),
+  subst⁻¹ (λ m. PlaysExactly log (map (λ t. t .number) (runningIn m))) (b .house) (house-players (b .ledger) log (b .orderly) (b .told)),
+  sheet-players (b .ledger) log (b .orderly) (b .told),
 )
 
 till-in : (h : Model) (log : Log) (b : Booked h log) → tillOf h ≡ tillOf (b .ledger)
@@ -159,7 +155,7 @@ till-balances cs =
       figures = same ∙ sym (ap (λ (s : Sheet). s .figures) (b .told .sheet));
       answers = λ before after c split accepted. answers-sheet (run before .house) (run before .log) c (booked before) accepted;
       plays = λ before after n split accepted last. players-in (run before .house) (run before .log) (booked before);
-      once = claimed-once (b .ledger) (run cs .log) (b .told);
+      once = b .told .once;
       pays = λ before after n split accepted. claim-in (run before .house) (run before .log) n (booked before) accepted;
     }
 

@@ -1,203 +1,193 @@
--- What the log tells of the ledger: the sheet, the game, each ticket's span, and that its due is everything its drawn games won until a
--- claim or an expiry moves the due, which happens once. Each command, refused or accepted, keeps it so.
-use Prim.Native.Nat.{ℕ, suc, _+_, _-_, _*_, _%_, _≤_, _<_, min, max}
+-- What the log tells of the ledger: the sheet, the progress of the games, in which games each ticket runs, and that its due is everything its drawn
+-- games won until a payment or an expiry moves the due, which happens once. Each command, refused or accepted, keeps it so.
+use Prim.Native.Nat.{ℕ, _+_, _-_, _≤_, _<_, min, max}
 use native.Mathlib.Omega.{arith}
 use mathlib.Core.Path.{_≡_, refl, sym, _∙_, ap, subst, subst⁻¹}
-use mathlib.Core.Bool.{Bool, true, false, cond, not, _&&_, true≢false}
+use mathlib.Core.Bool.{Bool, true, false, cond, not, _&&_}
 use mathlib.Core.List.{List, [], _∷_, _++_, map}
 use lib.Dec.{ltb, leb, eqb}
 use lib.ListN.{length, length-append, length-map}
-use borrow.Author.Tests.{ltb-true, ltb-false, leb-true, leb-false, eq-eqb, ne-eqb, eqb-true, eqb-false}
-use Rattle.sale.specs.Lists.{sum, keep}
+use borrow.Author.Tests.{ltb-true, leb-true, eq-eqb, ne-eqb, eqb-true, eqb-false}
+use Rattle.sale.specs.Lists.{sum, keep, member}
 use Rattle.sale.specs.Checks.{Operands}
 use Rattle.house.specs.Tickets.{Ticket, runsIn, gamesLeft, isFinished, isLive, entryOf, withDue, withStop, withFinishedDay}
 use Rattle.house.specs.Model.{Model, fresh, nextGame}
 use Rattle.house.specs.Commands.{Command, open′, sell, cancel, ball, claim, expire, transfer, codeOf, reply, act, opened, sold, cancelled, claimed, expired, transferred, stillLive, changed, cancelStop, isExpired, ticketAt, soldTicket, cancelledTicket, settles, ballEntered, gameSettled, settlement, runningIn, awarded, finishedOn}
-use Rattle.house.specs.Sheet.{Sheet, Line, playing, sheetSettlement, gamesFrom}
+use Rattle.house.specs.Sheet.{Sheet, Line, playing, sheetSettlement}
 use Rattle.house.specs.Till.{tillOf}
-use Rattle.house.specs.Claims.{Log, sheetOf, accepted, isBall, isSell, isClaimOf, gameOf, nextOf, drawn, Span, spanOf, spanAfter, awardAt, awardAfter, awardIn, gamesOf, wonBy}
+use Rattle.house.specs.Claims.{Log, Logged, sheetOf, nothing, issues, takesOff, draws, pays, effectOf, effectIn, Progress, progressAfter, progressOf, gameOf, nextOf, Span, gamesOf, spanOf, awardAt, wonBy, paymentsAfter, payments}
 use Rattle.house.proofs.Ledger.{withLive, houseOf, ledgerAfter, lineOf, sheetFor, All, Orderly}
 use Rattle.house.proofs.LiveTickets.{running-live, next-game-least}
 use Rattle.house.proofs.ListLaws.{All-map, All-append}
 use Rattle.house.proofs.MoneyLaws.{all-from}
 use Rattle.house.proofs.SheetFigures.{settlements-alike}
-use Rattle.house.proofs.Refusals.{and-true, CancelAccepted, ClaimAccepted, cancel-accepted, claim-accepted}
+use Rattle.house.proofs.Refusals.{and-true, ClaimAccepted, claim-accepted}
 use Rattle.house.proofs.Numbered.{all-both, Within, row-within, found, only}
 use Rattle.house.proofs.AwardLaws.{awardedAt, awarded-by-number, playing-lines}
-use Rattle.house.proofs.LogLaws.{logged, wonIn, won-by-span, withBall, awardNow, won-early, won-running, won-idle, sheet-refused, accepted-refused, span-refused, won-refused}
+use Rattle.house.proofs.LogLaws.{logged, span-has, games-cut, sheet-refused, effect-refused, SameTold, Untouched, untouched, nothing-won, awardNow, issued-span, taken-off, game-drawn, number-paid}
 use Rattle.prizes.proofs.SettleLaws.{awards-count}
 
--- a ticket's due: what it has won, and no claim of it was accepted; or nothing, since it was moved when no game was left
-pub data Dues (due won left claims : ℕ) : Type 0 where
-  owed : due ≡ won → claims ≡ 0 → Dues due won left claims
-  moved : due ≡ 0 → left ≡ 0 → Dues due won left claims
+-- a ticket's due: what it has won, and it was not paid; or nothing, since it was moved when no game was left
+pub data Dues (due won left paid : ℕ) : Type 0 where
+  owed : due ≡ won → paid ≡ 0 → Dues due won left paid
+  moved : due ≡ 0 → left ≡ 0 → Dues due won left paid
 
--- what the log tells of a ticket
+-- from a game on, a ticket with such a first game and stop runs just where a span has the game
+abbrev pub RunsBy : ℕ → Span → ℕ → ℕ → Type 0
+RunsBy game s first stop = (g : ℕ) → game ≤ g → (leb first g && ltb g stop) ≡ member g (gamesOf s)
+
+-- what the log tells of a ticket where the given game is the current one
 pub record Follows (game : ℕ) (log : Log) (number first stop due : ℕ) : Type 0 where
-  pub span : spanOf number log ≡ record { first = first; stop = stop }
-  pub dues : Dues due (wonBy number log) (stop - max first game) (accepted (isClaimOf number) log)
+  pub runs : RunsBy game (spanOf number log) first stop
+  pub dues : Dues due (wonBy number log) (stop - max first game) (payments number log)
 
 abbrev pub TicketTold : ℕ → Log → Ticket → Type 0
 TicketTold game log t = Follows game log (t .number) (t .first) (t .stop) (t .due)
 
+abbrev pub progressFor : Model → Progress
+progressFor m = record { game = m .game; balls = length (m .balls); issued = m .issued }
+
 pub record Told (m : Model) (log : Log) : Type 0 where
   pub sheet : sheetOf log ≡ sheetFor m
-  pub balls : accepted isBall log + 20 ≡ 20 * m .game + length (m .balls)
-  pub sells : accepted isSell log ≡ m .issued
+  pub progress : progressOf log ≡ progressFor m
   pub tickets : All (TicketTold (m .game) log) (m .live)
-  pub once : (n : ℕ) → accepted (isClaimOf n) log ≤ 1
-  pub unissued : (n : ℕ) → m .issued < n → accepted (isClaimOf n) log ≡ 0
+  pub once : (n : ℕ) → payments n log ≤ 1
+  pub unissued : (n : ℕ) → m .issued < n → payments n log ≡ 0
 
 -- ---- the fresh ledger
 
 pub told-fresh : Told fresh []
-unfolding sheetOf tillOf accepted keep sum
-told-fresh =
-    record { sheet = refl; balls = refl; sells = refl; tickets = tt; once = λ n. omega arith; unissued = λ n h. refl }
+unfolding sheetOf tillOf progressOf payments keep sum
+told-fresh = record { sheet = refl; progress = refl; tickets = tt; once = λ n. omega arith; unissued = λ n h. refl }
 
--- ---- one command more, of which the log tells the same of a ticket
+-- ---- a ticket of which the log tells the same after one command more
 
 follows-same : {game : ℕ} {before log : Log} {number first stop due : ℕ}
-    → spanOf number log ≡ spanOf number before
-    → wonBy number log ≡ wonBy number before
-    → accepted (isClaimOf number) log ≡ accepted (isClaimOf number) before
+    → SameTold number before log
     → Follows game before number first stop due
     → Follows game log number first stop due
-follows-same {game} {before} {log} {number} {first} {stop} {due} spans wins claims f =
-    record { span = spans ∙ f .span; dues = go (f .dues) }
+follows-same {game} {before} {log} {number} {first} {stop} {due} same f =
+    record { runs = subst⁻¹ (λ (s : Span). RunsBy game s first stop) (same .span) (f .runs); dues = go (f .dues) }
   where
-    go : Dues due (wonBy number before) (stop - max first game) (accepted (isClaimOf number) before)
-        → Dues due (wonBy number log) (stop - max first game) (accepted (isClaimOf number) log)
-    go (owed is none) = owed (is ∙ sym wins) (claims ∙ none)
+    go : Dues due (wonBy number before) (stop - max first game) (payments number before)
+        → Dues due (wonBy number log) (stop - max first game) (payments number log)
+    go (owed is none) = owed (is ∙ sym (same .won)) (same .paid ∙ none)
     go (moved is none) = moved is none
 
 -- the same of every ticket
 tickets-same : (game : ℕ) (before log : Log) (ts : List Ticket)
-    → ((n : ℕ) → spanOf n log ≡ spanOf n before)
-    → ((n : ℕ) → wonBy n log ≡ wonBy n before)
-    → ((n : ℕ) → accepted (isClaimOf n) log ≡ accepted (isClaimOf n) before)
+    → ((n : ℕ) → SameTold n before log)
     → All (TicketTold game before) ts
     → All (TicketTold game log) ts
-tickets-same game before log ts spans wins claims =
-    all-from {P = TicketTold game before} {Q = TicketTold game log}
-    (λ t. follows-same (spans (t .number)) (wins (t .number)) (claims (t .number))) ts
+tickets-same game before log ts same =
+    all-from {P = TicketTold game before} {Q = TicketTold game log} (λ t. follows-same (same (t .number))) ts
 
--- ---- a refused command
+-- a ticket of which the due is moved, or not
+due-moved : (game : ℕ) (before log : Log) (t : Ticket) (goes : Bool)
+    → spanOf (t .number) log ≡ spanOf (t .number) before
+    → (goes ≡ true → gamesLeft game t ≡ 0)
+    → (goes ≡ false → SameTold (t .number) before log)
+    → TicketTold game before t
+    → TicketTold game log (cond goes (withDue t 0) t)
+unfolding gamesLeft
+due-moved game before log t true span finished same f =
+    record { runs = subst⁻¹ (λ (s : Span). RunsBy game s (t .first) (t .stop)) span (f .runs); dues = moved refl (finished refl) }
+due-moved game before log t false span finished same f = follows-same (same refl) f
+
+-- ---- a command without effect
+
+module _ (m : Model) (log : Log) (e : Logged) (is : effectIn e ≡ nothing) (after : Model) (same : progressFor after ≡ progressFor m) where
+  without-effect : (n : ℕ) → SameTold n log (e ∷ log)
+  without-effect n = untouched n log e (subst⁻¹ (Untouched n log) is tt)
+
+  told-without : sheetOf (e ∷ log) ≡ sheetFor after → All (TicketTold (m .game) (e ∷ log)) (after .live) → Told m log → Told after (e ∷ log)
+  unfolding progressOf progressAfter
+  told-without sheet tickets told =
+      record {
+        sheet = sheet;
+        progress = ap (progressAfter (progressOf log)) is ∙ told .progress ∙ sym same;
+        tickets = subst⁻¹ (λ (p : Progress). All (TicketTold (p .game) (e ∷ log)) (after .live)) same tickets;
+        once = λ n. subst⁻¹ (λ (k : ℕ). k ≤ 1) (without-effect n .paid) (told .once n);
+        unissued = λ n h. without-effect n .paid ∙ told .unissued n (subst (λ (p : Progress). p .issued < n) same h);
+      }
+
+  -- one that leaves the tickets
+  told-unchanged : after .live ≡ m .live → sheetOf (e ∷ log) ≡ sheetFor after → Told m log → Told after (e ∷ log)
+  told-unchanged tickets sheet told =
+      told-without sheet
+      (subst⁻¹ (All (TicketTold (m .game) (e ∷ log))) tickets (tickets-same (m .game) log (e ∷ log) (m .live) without-effect (told .tickets))) told
 
 pub told-refused : (m : Model) (log : Log) (c : Command) (code : ℕ)
     → (code ≡ 0 → ⊥)
     → Told m log
     → Told m (logged c code ∷ log)
 told-refused m log c code refused told =
-    record {
-      sheet = sheet-refused c code log refused ∙ told .sheet;
-      balls = ap (λ (n : ℕ). n + 20) (accepted-refused c code log refused isBall) ∙ told .balls;
-      sells = accepted-refused c code log refused isSell ∙ told .sells;
-      tickets =
-          tickets-same (m .game) log (logged c code ∷ log) (m .live) (span-refused c code log refused) (won-refused c code log refused)
-          (λ n. accepted-refused c code log refused (isClaimOf n)) (told .tickets);
-      once = λ n. subst⁻¹ (λ (k : ℕ). k ≤ 1) (accepted-refused c code log refused (isClaimOf n)) (told .once n);
-      unissued = λ n h. accepted-refused c code log refused (isClaimOf n) ∙ told .unissued n h;
-    }
+    told-unchanged m log (logged c code) (effect-refused c code log refused) m refl refl (sheet-refused c code log refused ∙ told .sheet) told
 
 -- ---- the game that is current, and the next
 
-module _ (m : Model) (log : Log) (orderly : Orderly m) (told : Told m log) where
+module _ (m : Model) (log : Log) (told : Told m log) where
   pub game-told : gameOf log ≡ m .game
-  game-told = omega (arith, told .balls, orderly .balls, orderly .games)
+  game-told = ap (λ (p : Progress). p .game) (told .progress)
 
-  pub balls-told : accepted isBall log % 20 ≡ length (m .balls)
-  balls-told = omega (arith, told .balls, orderly .balls, orderly .games)
+  balls-told : progressOf log .balls ≡ length (m .balls)
+  balls-told = ap (λ (p : Progress). p .balls) (told .progress)
 
-  pub next-told : nextOf log ≡ nextGame m
-  next-told =
-      (λ i. cond (eqb (balls-told i) 0) (game-told i) (game-told i + 1)) ∙ go (eqb (length (m .balls)) 0)
+  pub issued-told : progressOf log .issued ≡ m .issued
+  issued-told = ap (λ (p : Progress). p .issued) (told .progress)
+
+  next-told : nextOf log ≡ nextGame m
+  next-told = (λ i. cond (eqb (balls-told i) 0) (game-told i) (game-told i + 1)) ∙ go (eqb (length (m .balls)) 0)
     where
       go : (none : Bool) → cond none (m .game) (m .game + 1) ≡ cond (not none) (m .game + 1) (m .game)
       go true = refl
       go false = refl
 
--- ---- Open and Transfer
+-- ---- Open, Transfer and Expire
 
 abbrev After : Model → Log → Command → Type 0
 After m log c = sheetOf (logged c 0 ∷ log) ≡ sheetFor (ledgerAfter m c) → Told (ledgerAfter m c) (logged c 0 ∷ log)
 
 told-open : (m : Model) (log : Log) (d : ℕ) → Told m log → After m log (open′ d)
-unfolding act opened accepted keep spanOf spanAfter awardIn awardAfter wonBy
-told-open m log d told sheet =
-    record {
-      sheet = sheet;
-      balls = told .balls;
-      sells = told .sells;
-      tickets =
-          tickets-same (m .game) log (logged (open′ d) 0 ∷ log) (m .live) (λ n. refl) (λ n. refl) (λ n. refl) (told .tickets);
-      once = told .once;
-      unissued = told .unissued;
-    }
+unfolding act opened effectIn effectOf
+told-open m log d told sheet = told-unchanged m log (logged (open′ d) 0) refl (ledgerAfter m (open′ d)) refl refl sheet told
 
 told-transfer : (m : Model) (log : Log) (j cents : ℕ) → Told m log → After m log (transfer j cents)
-unfolding act transferred accepted keep spanOf spanAfter awardIn awardAfter wonBy
+unfolding act transferred effectIn effectOf
 told-transfer m log j cents told sheet =
-    record {
-      sheet = sheet;
-      balls = told .balls;
-      sells = told .sells;
-      tickets =
-          tickets-same (m .game) log (logged (transfer j cents) 0 ∷ log) (m .live) (λ n. refl) (λ n. refl) (λ n. refl) (told .tickets);
-      once = told .once;
-      unissued = told .unissued;
-    }
-
--- ---- Expire
-
-expire-ticket : (m : Model) (log : Log) (t : Ticket)
-    → TicketTold (m .game) log t
-    → TicketTold (m .game) (logged expire 0 ∷ log) (cond (isExpired m t) (withDue t 0) t)
-unfolding accepted keep spanOf spanAfter awardIn awardAfter wonBy isExpired gamesLeft
-expire-ticket m log t f = go (isExpired m t) refl
-  where
-    go : (b : Bool) → isExpired m t ≡ b → TicketTold (m .game) (logged expire 0 ∷ log) (cond b (withDue t 0) t)
-    go true late =
-        record { span = f .span; dues = moved refl (eqb-true (gamesLeft (m .game) t) 0 (and-true _ _ late .0)) }
-    go false late = follows-same refl refl refl f
+    told-unchanged m log (logged (transfer j cents) 0) refl (ledgerAfter m (transfer j cents)) refl refl sheet told
 
 told-expire : (m : Model) (log : Log) → Told m log → After m log expire
-unfolding act expired accepted keep
+unfolding act expired effectIn effectOf isExpired
 told-expire m log told sheet =
-    record {
-      sheet = sheet;
-      balls = told .balls;
-      sells = told .sells;
-      tickets =
-          All-map (TicketTold (m .game) log) (TicketTold (m .game) (logged expire 0 ∷ log)) (λ t. cond (isExpired m t) (withDue t 0) t)
-          (expire-ticket m log) (m .live) (told .tickets);
-      once = told .once;
-      unissued = told .unissued;
-    }
+    told-without m log (logged expire 0) refl (ledgerAfter m expire) refl sheet
+    (All-map (TicketTold (m .game) log) (TicketTold (m .game) (logged expire 0 ∷ log)) (λ t. cond (isExpired m t) (withDue t 0) t)
+    (λ t. due-moved (m .game) log (logged expire 0 ∷ log) t (isExpired m t) (same (t .number) .span)
+    (λ late. eqb-true (gamesLeft (m .game) t) 0 (and-true _ _ late .0)) (λ kept. same (t .number))) (m .live) (told .tickets)) told
+  where
+    same : (n : ℕ) → SameTold n log (logged expire 0 ∷ log)
+    same = without-effect m log (logged expire 0) refl m refl
 
 -- ---- Claim
 
-pub claimed-once : (m : Model) (log : Log) → Told m log → (n : ℕ) → accepted (isClaimOf n) log ≤ 1
-claimed-once m log told = told .once
-
--- of the ticket that a claim is accepted for: everything it won is due, and no claim of it was accepted before
+-- of the ticket that a claim is accepted for: everything it won is due, and it was not paid before
 pub claim-due : (m : Model) (log : Log) (n : ℕ)
     → Told m log
     → codeOf (houseOf m) (claim n) ≡ 0
-    → (ticketAt n (houseOf m .live) .due ≡ wonBy n log) × (accepted (isClaimOf n) log ≡ 0)
+    → (ticketAt n (houseOf m .live) .due ≡ wonBy n log) × (payments n log ≡ 0)
 unfolding stillLive
 claim-due m log n told accept =
     let facts = claim-accepted (houseOf m) n accept in
     let here = found n (TicketTold (m .game) log) (isLive (m .game)) (m .live) (told .tickets) (facts .here) in
     go (facts .due)
-    (subst (λ (k : ℕ). Dues t.due (wonBy k log) (t.stop - max t.first (m .game)) (accepted (isClaimOf k) log)) (here .1) (here .0 .dues))
+    (subst (λ (k : ℕ). Dues t.due (wonBy k log) (t.stop - max t.first (m .game)) (payments k log)) (here .1) (here .0 .dues))
   where
     t : Ticket
     t = ticketAt n (keep (isLive (m .game)) (m .live))
 
     go : (t .due ≡ 0 → ⊥)
-        → Dues (t .due) (wonBy n log) (t .stop - max (t .first) (m .game)) (accepted (isClaimOf n) log)
-        → (t .due ≡ wonBy n log) × (accepted (isClaimOf n) log ≡ 0)
+        → Dues (t .due) (wonBy n log) (t .stop - max (t .first) (m .game)) (payments n log)
+        → (t .due ≡ wonBy n log) × (payments n log ≡ 0)
     go due (owed is none) = (is, none)
     go due (moved is none) = absurd (due is)
 
@@ -208,56 +198,40 @@ pub claim-pays : (m : Model) (log : Log) (n : ℕ)
 unfolding reply
 claim-pays m log n told accept = claim-due m log n told accept .0
 
-claims-after : (log : Log) (k n : ℕ) (b : Bool)
-    → eqb k n ≡ b
-    → accepted (isClaimOf n) (logged (claim k) 0 ∷ log) ≡ cond b (suc (accepted (isClaimOf n) log)) (accepted (isClaimOf n) log)
-unfolding accepted keep
-claims-after log k n b e = ap (λ (b : Bool). length (cond b (logged (claim k) 0 ∷ kept) kept)) e ∙ go b
+-- a number that was not paid before is paid once
+paid-once : (e : Logged) (log : Log) (k n : ℕ)
+    → effectIn e ≡ pays k
+    → payments k log ≡ 0
+    → payments n log ≤ 1
+    → payments n (e ∷ log) ≤ 1
+paid-once e log k n is none once = go (eqb k n) refl (number-paid e log k n is .2)
   where
-    kept : Log
-    kept = keep (λ e. eqb (e .code) 0 && isClaimOf n (e .command)) log
-
-    go : (b : Bool) → length (cond b (logged (claim k) 0 ∷ kept) kept) ≡ cond b (suc (length kept)) (length kept)
-    go true = refl
-    go false = refl
-
-claim-once : (log : Log) (k n : ℕ)
-    → accepted (isClaimOf k) log ≡ 0
-    → accepted (isClaimOf n) log ≤ 1
-    → accepted (isClaimOf n) (logged (claim k) 0 ∷ log) ≤ 1
-claim-once log k n none once = go (eqb k n) refl
-  where
-    go : (b : Bool) → eqb k n ≡ b → accepted (isClaimOf n) (logged (claim k) 0 ∷ log) ≤ 1
-    go true e =
-        let same : accepted (isClaimOf k) log ≡ accepted (isClaimOf n) log =
-        ap (λ (j : ℕ). accepted (isClaimOf j) log) (eqb-true k n e) in
-        omega (arith, claims-after log k n true e)
-    go false e = omega (arith, claims-after log k n false e)
+    go : (b : Bool) → eqb k n ≡ b → payments n (e ∷ log) ≡ cond b (payments n log + 1) (payments n log) → payments n (e ∷ log) ≤ 1
+    go true same paid =
+        let before : payments k log ≡ payments n log = ap (λ (j : ℕ). payments j log) (eqb-true k n same) in
+        omega arith
+    go false other paid = omega arith
 
 claim-ticket : (m : Model) (log : Log) (n : ℕ) (t : Ticket)
     → (t .number ≡ n → gamesLeft (m .game) t ≡ 0)
     → TicketTold (m .game) log t
     → TicketTold (m .game) (logged (claim n) 0 ∷ log) (cond (eqb (t .number) n) (withDue t 0) t)
-unfolding accepted keep spanOf spanAfter awardIn awardAfter wonBy gamesLeft
-claim-ticket m log n t finished f = go (eqb (t .number) n) refl
-  where
-    go : (b : Bool) → eqb (t .number) n ≡ b → TicketTold (m .game) (logged (claim n) 0 ∷ log) (cond b (withDue t 0) t)
-    go true e = record { span = f .span; dues = moved refl (finished (eqb-true (t .number) n e)) }
-    go false e =
-        follows-same refl refl
-        (claims-after log n (t .number) false (ne-eqb n (t .number) (λ same. eqb-false (t .number) n e (sym same)))) f
+unfolding effectIn effectOf
+claim-ticket m log n t finished =
+    due-moved (m .game) log (logged (claim n) 0 ∷ log) t (eqb (t .number) n) (number-paid (logged (claim n) 0) log n (t .number) refl .0)
+    (λ here. finished (eqb-true (t .number) n here))
+    (λ other. untouched (t .number) log (logged (claim n) 0) (λ same. eqb-false (t .number) n other (sym same)))
 
 told-claim : (m : Model) (log : Log) (n : ℕ)
     → Orderly m
     → Told m log
     → codeOf (houseOf m) (claim n) ≡ 0
     → After m log (claim n)
-unfolding act claimed changed stillLive accepted keep
+unfolding act claimed changed stillLive effectIn effectOf progressOf progressAfter
 told-claim m log n orderly told accept sheet =
     record {
       sheet = sheet;
-      balls = told .balls;
-      sells = told .sells;
+      progress = told .progress;
       tickets =
           All-map (λ t. TicketTold (m .game) log t × (t .number ≡ n → ticketAt n (houseOf m .live) ≡ t))
           (TicketTold (m .game) (logged (claim n) 0 ∷ log)) (λ t. cond (eqb (t .number) n) (withDue t 0) t)
@@ -267,8 +241,9 @@ told-claim m log n orderly told accept sheet =
           (m .live)
           (all-both (TicketTold (m .game) log) (λ t. t .number ≡ n → ticketAt n (houseOf m .live) ≡ t) (m .live) (told .tickets)
           (only n (isLive (m .game)) 1 (m .live) (orderly .numbers) (facts .here)));
-      once = λ k. claim-once log n k (claim-due m log n told accept .1) (told .once k);
-      unissued = λ k h. claims-after log n k false (ne-eqb n k (λ same. omega (arith, facts .issued))) ∙ told .unissued k h;
+      once = λ k. paid-once (logged (claim n) 0) log n k refl (claim-due m log n told accept .1) (told .once k);
+      unissued = λ k h.
+          untouched k log (logged (claim n) 0) (λ same. omega (arith, facts .issued)) .paid ∙ told .unissued k h;
     }
   where
     facts : ClaimAccepted (houseOf m) n
@@ -276,71 +251,33 @@ told-claim m log n orderly told accept sheet =
 
 -- ---- Sell
 
--- the span of a number that is not the one sold
-pub sell-span-other : (log : Log) (o : Operands) (n : ℕ)
-    → (accepted isSell log + 1 ≡ n → ⊥)
-    → spanOf n (logged (sell o) 0 ∷ log) ≡ spanOf n log
-unfolding spanOf spanAfter
-sell-span-other log o n other = rw (ne-eqb (accepted isSell log + 1) n other)
-
-sell-span : (log : Log) (o : Operands) (n : ℕ)
-    → accepted isSell log + 1 ≡ n
-    → spanOf n (logged (sell o) 0 ∷ log) ≡ record { first = nextOf log; stop = nextOf log + o .games }
-unfolding spanOf spanAfter
-sell-span log o n here = rw (eq-eqb (accepted isSell log + 1) n here)
-
--- with the same span, a number has won the same
-sell-won-other : (log : Log) (o : Operands) (n : ℕ)
-    → spanOf n (logged (sell o) 0 ∷ log) ≡ spanOf n log
-    → wonBy n (logged (sell o) 0 ∷ log) ≡ wonBy n log
-unfolding accepted keep awardIn awardAfter wonBy
-sell-won-other log o n same = ap (λ (s : Span). sum (map (λ g. awardIn n g log) (keep (drawn log) (gamesOf s)))) same
-
--- none of the games of a ticket that is sold now is drawn
-nothing-won : (log : Log) (n first stop : ℕ)
-    → spanOf n log ≡ record { first = first; stop = stop }
-    → gameOf log ≤ first
-    → wonBy n log ≡ 0
-unfolding sum gamesFrom
-nothing-won log n first stop span later =
-    let start : spanOf n log .first ≡ first = ap (λ (s : Span). s .first) span in
-    let none : min (spanOf n log .stop - spanOf n log .first) (gameOf log - spanOf n log .first) ≡ 0 = omega arith in
-    won-by-span n log ∙ ap (wonIn (λ g. awardIn n g log) (spanOf n log .first)) none
-
-sell-ticket-other : (m : Model) (log : Log) (o : Operands) (t : Ticket)
-    → Told m log
-    → t .number ≤ m .issued
-    → TicketTold (m .game) log t
-    → TicketTold (m .game) (logged (sell o) 0 ∷ log) t
-unfolding accepted keep
-sell-ticket-other m log o t told earlier f =
-    let span : spanOf (t .number) (logged (sell o) 0 ∷ log) ≡ spanOf (t .number) log =
-    sell-span-other log o (t .number) (λ here. omega (arith, told .sells)) in
-    follows-same span (sell-won-other log o (t .number) span) refl f
-
 sell-ticket : (m : Model) (log : Log) (o : Operands)
-    → Orderly m
     → Told m log
     → TicketTold (m .game) (logged (sell o) 0 ∷ log) (soldTicket m o)
-unfolding accepted keep
-sell-ticket m log o orderly told =
-    let next : nextOf log ≡ nextGame m = next-told m log orderly told in
-    let span : spanOf (m .issued + 1) (logged (sell o) 0 ∷ log) ≡ record { first = nextGame m; stop = nextGame m + o .games } =
-    sell-span log o (m .issued + 1) (ap (λ (n : ℕ). n + 1) (told .sells))
+unfolding effectIn effectOf progressOf progressAfter payments paymentsAfter
+sell-ticket m log o told =
+    let e : Logged = logged (sell o) 0 in
+    let number : ℕ = m .issued + 1 in
+    let next : nextOf log ≡ nextGame m = next-told m log told in
+    let span : spanOf number (e ∷ log) ≡ record { first = nextGame m; stop = nextGame m + o .games } =
+    issued-span e log (o .games) number refl (ap (λ (n : ℕ). n + 1) (issued-told m log told))
     ∙ (λ i. record { first = next i; stop = next i + o .games }) in
-    let won : wonBy (m .issued + 1) (logged (sell o) 0 ∷ log) ≡ 0 =
-    nothing-won (logged (sell o) 0 ∷ log) (m .issued + 1) (nextGame m) (nextGame m + o .games) span
-    (subst⁻¹ (λ (g : ℕ). g ≤ nextGame m) (game-told m log orderly told) (next-game-least m)) in
-    record { span = span; dues = owed (sym won) (told .unissued (m .issued + 1) (omega arith)) }
+    let start : spanOf number (e ∷ log) .first ≡ nextGame m = ap (λ (s : Span). s .first) span in
+    let won : wonBy number (e ∷ log) ≡ 0 = nothing-won number (e ∷ log) (omega (arith, start, game-told m log told, next-game-least m)) in
+    record {
+      runs =
+          subst⁻¹ (λ (s : Span). RunsBy (m .game) s (nextGame m) (nextGame m + o .games)) span
+          (λ g from. sym (span-has g (record { first = nextGame m; stop = nextGame m + o .games })));
+      dues = owed (sym won) (told .unissued number (omega arith));
+    }
 
 told-sell : (m : Model) (log : Log) (o : Operands) → Orderly m → Told m log → After m log (sell o)
-unfolding act sold accepted keep
+unfolding act sold effectIn effectOf progressOf progressAfter payments paymentsAfter
 told-sell m log o orderly told sheet =
     record {
       sheet = sheet;
-      balls = told .balls;
-      sells = omega (arith, told .sells);
-      tickets = All-append (TicketTold (m .game) after) (m .live) (soldTicket m o ∷ []) olds (sell-ticket m log o orderly told, tt);
+      progress = ap (λ (p : Progress). progressAfter p (issues (o .games))) (told .progress);
+      tickets = All-append (TicketTold (m .game) after) (m .live) (soldTicket m o ∷ []) olds (sell-ticket m log o told, tt);
       once = told .once;
       unissued = λ n h. told .unissued n (omega arith);
     }
@@ -351,41 +288,12 @@ told-sell m log o orderly told sheet =
     olds : All (TicketTold (m .game) after) (m .live)
     olds =
         all-from {P = λ t. TicketTold (m .game) log t × Within 1 (1 + length (m .live)) t} {Q = TicketTold (m .game) after}
-        (λ t h. sell-ticket-other m log o t told (omega (arith, orderly .issued)) (h .0)) (m .live)
+        (λ t h. follows-same
+        (untouched (t .number) log (logged (sell o) 0) (λ here. omega (arith, orderly .issued, issued-told m log told))) (h .0)) (m .live)
         (all-both (TicketTold (m .game) log) (Within 1 (1 + length (m .live))) (m .live) (told .tickets)
         (row-within 1 (m .live) (orderly .numbers)))
 
 -- ---- Cancel
-
-pub cancel-span-other : (log : Log) (k n : ℕ) → (k ≡ n → ⊥) → spanOf n (logged (cancel k) 0 ∷ log) ≡ spanOf n log
-unfolding spanOf spanAfter
-cancel-span-other log k n other =
-    ap (λ (b : Bool). cond b (record { first = spanOf n log .first; stop = max (spanOf n log .first) (nextOf log) }) (spanOf n log))
-    (ne-eqb k n other)
-
-cancel-span : (log : Log) (k n : ℕ)
-    → k ≡ n
-    → spanOf n (logged (cancel k) 0 ∷ log) ≡ record { first = spanOf n log .first; stop = max (spanOf n log .first) (nextOf log) }
-unfolding spanOf spanAfter
-cancel-span log k n here =
-    ap (λ (b : Bool). cond b (record { first = spanOf n log .first; stop = max (spanOf n log .first) (nextOf log) }) (spanOf n log))
-    (eq-eqb k n here)
-
--- what is taken off is not drawn
-cancel-won : (log : Log) (k n first stop shorter : ℕ)
-    → spanOf n log ≡ record { first = first; stop = stop }
-    → spanOf n (logged (cancel k) 0 ∷ log) ≡ record { first = first; stop = shorter }
-    → gameOf log ≤ shorter
-    → shorter ≤ stop
-    → wonBy n (logged (cancel k) 0 ∷ log) ≡ wonBy n log
-unfolding accepted keep awardIn awardAfter
-cancel-won log k n first stop shorter before after drawn-before less =
-    let same : min (shorter - first) (gameOf log - first) ≡ min (stop - first) (gameOf log - first) = omega arith in
-    won-by-span n (logged (cancel k) 0 ∷ log)
-    ∙ (λ i. wonIn (λ g. awardIn n g log) (after i .first) (min (after i .stop - after i .first) (gameOf log - after i .first)))
-    ∙ ap (wonIn (λ g. awardIn n g log) first) same
-    ∙ (λ i. wonIn (λ g. awardIn n g log) (sym before i .first) (min (sym before i .stop - sym before i .first) (gameOf log - sym before i .first)))
-    ∙ sym (won-by-span n log)
 
 -- the finishing day is not told
 finished-day : (game : ℕ) (log : Log) (t : Ticket) (b : Bool) (day : ℕ)
@@ -394,87 +302,75 @@ finished-day : (game : ℕ) (log : Log) (t : Ticket) (b : Bool) (day : ℕ)
 finished-day game log t true day f = f
 finished-day game log t false day f = f
 
+-- a ticket and its span are cut off alike
+cut-alike : (game next first stop : ℕ) (s : Span)
+    → RunsBy game s first stop
+    → RunsBy game (record { first = s .first; stop = min (s .stop) next }) first (min stop (max first next))
+cut-alike game next first stop s runs g from =
+    games-cut first stop (max first next) next g (λ low under. omega arith) (λ low under. omega arith)
+    ∙ ap (λ (b : Bool). ltb g next && b) (runs g from ∙ span-has g s)
+    ∙ sym (games-cut (s .first) (s .stop) next next g (λ low under. under) (λ low under. under))
+    ∙ sym (span-has g (record { first = s .first; stop = min (s .stop) next }))
+
 -- the ticket that Cancel shortens
-cancel-ticket-here : (m : Model) (log : Log) (t : Ticket)
-    → Orderly m
+cancel-ticket-here : (m : Model) (log : Log) (e : Logged) (t : Ticket)
     → Told m log
-    → cancelStop m t < t .stop
+    → effectIn e ≡ takesOff (t .number)
     → TicketTold (m .game) log t
-    → TicketTold (m .game) (logged (cancel (t .number)) 0 ∷ log) (withStop t (min (t .stop) (cancelStop m t)))
-unfolding accepted keep
-cancel-ticket-here m log t orderly told some f =
-    let next : nextOf log ≡ nextGame m = next-told m log orderly told in
-    let start : spanOf (t .number) log .first ≡ t .first = ap (λ (s : Span). s .first) (f .span) in
-    let least : cancelStop m t ≡ min (t .stop) (cancelStop m t) = omega arith in
-    let span : spanOf (t .number) (logged (cancel (t .number)) 0 ∷ log)
-    ≡ record { first = t .first; stop = min (t .stop) (cancelStop m t) } =
-    cancel-span log (t .number) (t .number) refl
-    ∙ (λ i. record { first = start i; stop = max (start i) (next i) })
-    ∙ (λ i. record { first = t .first; stop = least i }) in
-    let won : wonBy (t .number) (logged (cancel (t .number)) 0 ∷ log) ≡ wonBy (t .number) log =
-    cancel-won log (t .number) (t .number) (t .first) (t .stop) (min (t .stop) (cancelStop m t)) (f .span) span
-    (omega (arith, game-told m log orderly told, next-game-least m)) (omega arith) in
-    record { span = span; dues = go won (f .dues) }
+    → TicketTold (m .game) (e ∷ log) (withStop t (min (t .stop) (cancelStop m t)))
+cancel-ticket-here m log e t told is f =
+    let after = taken-off e log (t .number) is in
+    let before : Span = spanOf (t .number) log in
+    let span : spanOf (t .number) (e ∷ log) ≡ record { first = before .first; stop = min (before .stop) (nextGame m) } =
+    after .0 ∙ (λ i. record { first = before .first; stop = min (before .stop) (next-told m log told i) }) in
+    record {
+      runs =
+          subst⁻¹ (λ (s : Span). RunsBy (m .game) s (t .first) (min (t .stop) (cancelStop m t))) span
+          (cut-alike (m .game) (nextGame m) (t .first) (t .stop) before (f .runs));
+      dues = go (after .1) (after .2) (f .dues);
+    }
   where
-    go : wonBy (t .number) (logged (cancel (t .number)) 0 ∷ log) ≡ wonBy (t .number) log
-        → Dues (t .due) (wonBy (t .number) log) (t .stop - max (t .first) (m .game)) (accepted (isClaimOf (t .number)) log)
-        → Dues (t .due) (wonBy (t .number) (logged (cancel (t .number)) 0 ∷ log))
-        (min (t .stop) (cancelStop m t) - max (t .first) (m .game)) (accepted (isClaimOf (t .number)) log)
-    go won (owed is none) = owed (is ∙ sym won) none
-    go won (moved is none) = moved is (omega arith)
+    go : wonBy (t .number) (e ∷ log) ≡ wonBy (t .number) log
+        → payments (t .number) (e ∷ log) ≡ payments (t .number) log
+        → Dues (t .due) (wonBy (t .number) log) (t .stop - max (t .first) (m .game)) (payments (t .number) log)
+        → Dues (t .due) (wonBy (t .number) (e ∷ log)) (min (t .stop) (cancelStop m t) - max (t .first) (m .game)) (payments (t .number) (e ∷ log))
+    go won paid (owed is none) = owed (is ∙ sym won) (paid ∙ none)
+    go won paid (moved is none) = moved is (omega arith)
 
 cancel-ticket : (m : Model) (log : Log) (n : ℕ) (t : Ticket)
-    → Orderly m
     → Told m log
-    → (t .number ≡ n → cancelStop m t < t .stop)
     → TicketTold (m .game) log t
     → TicketTold (m .game) (logged (cancel n) 0 ∷ log) (cond (eqb (t .number) n) (cancelledTicket m t) t)
-unfolding accepted keep awardIn awardAfter wonBy
-cancel-ticket m log n t orderly told some f = go (eqb (t .number) n) refl
+unfolding effectIn effectOf
+cancel-ticket m log n t told f = go (eqb (t .number) n) refl
   where
-    go : (b : Bool)
-        → eqb (t .number) n ≡ b
-        → TicketTold (m .game) (logged (cancel n) 0 ∷ log) (cond b (cancelledTicket m t) t)
-    go true e =
-        let here : t .number ≡ n = eqb-true (t .number) n e in
-        let shorter : Ticket = withStop t (min (t .stop) (cancelStop m t)) in
-        subst (λ (k : ℕ). TicketTold (m .game) (logged (cancel k) 0 ∷ log) (cancelledTicket m t)) here
-        (finished-day (m .game) (logged (cancel (t .number)) 0 ∷ log) shorter
-        (isFinished (m .game) shorter && eqb (t .finishedDay) 0) (m .day)
-        (cancel-ticket-here m log t orderly told (some here) f))
-    go false e =
-        let span : spanOf (t .number) (logged (cancel n) 0 ∷ log) ≡ spanOf (t .number) log =
-        cancel-span-other log n (t .number) (λ same. eqb-false (t .number) n e (sym same)) in
-        follows-same span
-        (ap (λ (s : Span). sum (map (λ g. awardIn (t .number) g log) (keep (drawn log) (gamesOf s)))) span) refl f
+    e : Logged
+    e = logged (cancel n) 0
 
-told-cancel : (m : Model) (log : Log) (n : ℕ)
-    → Orderly m
-    → Told m log
-    → codeOf (houseOf m) (cancel n) ≡ 0
-    → After m log (cancel n)
-unfolding act cancelled changed stillLive accepted keep
-told-cancel m log n orderly told accept sheet =
+    go : (b : Bool) → eqb (t .number) n ≡ b → TicketTold (m .game) (e ∷ log) (cond b (cancelledTicket m t) t)
+    go true here =
+        let shorter : Ticket = withStop t (min (t .stop) (cancelStop m t)) in
+        finished-day (m .game) (e ∷ log) shorter (isFinished (m .game) shorter && eqb (t .finishedDay) 0) (m .day)
+        (cancel-ticket-here m log e t told (ap takesOff (sym (eqb-true (t .number) n here))) f)
+    go false other = follows-same (untouched (t .number) log e (λ same. eqb-false (t .number) n other (sym same))) f
+
+told-cancel : (m : Model) (log : Log) (n : ℕ) → Told m log → After m log (cancel n)
+unfolding act cancelled changed stillLive effectIn effectOf progressOf progressAfter payments paymentsAfter
+told-cancel m log n told sheet =
     record {
       sheet = sheet;
-      balls = told .balls;
-      sells = told .sells;
+      progress = told .progress;
       tickets =
-          All-map (λ t. TicketTold (m .game) log t × (t .number ≡ n → ticketAt n (houseOf m .live) ≡ t))
-          (TicketTold (m .game) (logged (cancel n) 0 ∷ log)) (λ t. cond (eqb (t .number) n) (cancelledTicket m t) t)
-          (λ t h. cancel-ticket m log n t orderly told
-          (λ same. subst (λ u. cancelStop m u < u .stop) (h .1 same) (facts .some)) (h .0))
-          (m .live)
-          (all-both (TicketTold (m .game) log) (λ t. t .number ≡ n → ticketAt n (houseOf m .live) ≡ t) (m .live) (told .tickets)
-          (only n (isLive (m .game)) 1 (m .live) (orderly .numbers) (facts .here)));
+          All-map (TicketTold (m .game) log) (TicketTold (m .game) (logged (cancel n) 0 ∷ log))
+          (λ t. cond (eqb (t .number) n) (cancelledTicket m t) t) (λ t. cancel-ticket m log n t told) (m .live) (told .tickets);
       once = told .once;
       unissued = told .unissued;
     }
-  where
-    facts : CancelAccepted (houseOf m) n
-    facts = cancel-accepted (houseOf m) n accept
 
 -- ---- Ball
+
+abbrev withBall : ℕ → Log → Log
+withBall b log = logged (ball b) 0 ∷ log
 
 -- the ledger's tickets after the twentieth
 abbrev settledTickets : ℕ → Model → List Ticket
@@ -482,79 +378,69 @@ settledTickets b m =
     map (finishedOn (m .day) (m .game + 1)) (awarded (m .game) (settlement b (houseOf m) .awards) (m .live))
 
 told-early : (m : Model) (log : Log) (b : ℕ)
-    → Orderly m
     → Told m log
     → settles b m ≡ false
     → sheetOf (withBall b log) ≡ sheetFor (withLive (ballEntered b (houseOf m)) (m .live))
     → Told (withLive (ballEntered b (houseOf m)) (m .live)) (withBall b log)
-unfolding ballEntered accepted keep spanOf spanAfter
-told-early m log b orderly told early sheet =
+unfolding ballEntered effectIn effectOf progressOf progressAfter payments paymentsAfter
+told-early m log b told early sheet =
     let size : length (m .balls ++ (b ∷ [])) ≡ length (m .balls) + 1 = length-append (m .balls) (b ∷ []) in
     let short : length (m .balls ++ (b ∷ [])) ≡ 20 → ⊥ = eqb-false (length (m .balls ++ (b ∷ []))) 20 early in
+    let fewer : length (m .balls) ≡ 19 → ⊥ = λ last. short (omega arith) in
     record {
       sheet = sheet;
-      balls = omega (arith, told .balls);
-      sells = told .sells;
+      progress =
+          ap (λ (p : Progress). progressAfter p (draws b)) (told .progress)
+          ∙ rw (ne-eqb (length (m .balls)) 19 fewer) (λ i. record { game = m .game; balls = sym size i; issued = m .issued });
       tickets =
-          tickets-same (m .game) log (withBall b log) (m .live) (λ n. refl)
-          (λ n. won-early b n log (λ last. short (omega (arith, balls-told m log orderly told)))) (λ n. refl) (told .tickets);
+          tickets-same (m .game) log (withBall b log) (m .live)
+          (λ n. untouched n log (logged (ball b) 0) (λ last. fewer (sym (balls-told m log told) ∙ last))) (told .tickets);
       once = told .once;
       unissued = told .unissued;
     }
 
--- where a ticket does not run in the game, no more games of its span are past after it
-idle-count : (first stop game : ℕ)
-    → (leb first game && ltb game stop) ≡ false
-    → min (stop - first) (suc game - first) ≡ min (stop - first) (game - first)
-idle-count first stop game idle = go (leb first game) refl (ltb game stop) refl idle
-  where
-    go : (low : Bool) → leb first game ≡ low → (high : Bool) → ltb game stop ≡ high
-        → (low && high) ≡ false
-        → min (stop - first) (suc game - first) ≡ min (stop - first) (game - first)
-    go true l true h out = absurd (true≢false out)
-    go true l false h out = let past : stop ≤ game = ltb-false game stop h in omega arith
-    go false l high h out = let later : game < first = leb-false first game l in omega arith
-
 -- a ticket at the twentieth ball
-settled-ticket : (m : Model) (log : Log) (b : ℕ) (lines : List Line) (awards : List ℕ) (t : Ticket)
+settled-ticket : (m : Model) (log : Log) (e : Logged) (b : ℕ) (lines : List Line) (awards : List ℕ) (t : Ticket)
+    → effectIn e ≡ draws b
     → gameOf log ≡ m .game
-    → accepted isBall log % 20 ≡ 19
+    → progressOf log .balls ≡ 19
     → awardNow b (t .number) log ≡ awardAt (t .number) lines awards
     → TicketTold (m .game) log t
-    → TicketTold (m .game + 1) (withBall b log) (awardedAt (m .game) lines awards t)
-unfolding accepted keep spanOf spanAfter runsIn
-settled-ticket m log b lines awards t game last award f = go (runsIn (m .game) t) refl (f .dues)
+    → TicketTold (m .game + 1) (e ∷ log) (awardedAt (m .game) lines awards t)
+unfolding runsIn
+settled-ticket m log e b lines awards t is game last award f = go (runsIn (m .game) t) refl won (f .dues)
   where
-    start : spanOf (t .number) log .first ≡ t .first
-    start = ap (λ (s : Span). s .first) (f .span)
+    cents : ℕ
+    cents = awardAt (t .number) lines awards
 
-    end : spanOf (t .number) log .stop ≡ t .stop
-    end = ap (λ (s : Span). s .stop) (f .span)
+    after : (spanOf (t .number) (e ∷ log) ≡ spanOf (t .number) log)
+        × (wonBy (t .number) (e ∷ log)
+        ≡ wonBy (t .number) log + cond (member (gameOf log) (gamesOf (spanOf (t .number) log))) (awardNow b (t .number) log) 0)
+        × (payments (t .number) (e ∷ log) ≡ payments (t .number) log)
+    after = game-drawn e log b (t .number) is last
+
+    won : wonBy (t .number) (e ∷ log) ≡ wonBy (t .number) log + cond (leb (t .first) (m .game) && ltb (m .game) (t .stop)) cents 0
+    won =
+        after .1
+        ∙ (λ i. wonBy (t .number) log + cond (member (game i) (gamesOf (spanOf (t .number) log))) (award i) 0)
+        ∙ ap (λ (runs : Bool). wonBy (t .number) log + cond runs cents 0) (sym (f .runs (m .game) (omega arith)))
+
+    later : RunsBy (m .game + 1) (spanOf (t .number) (e ∷ log)) (t .first) (t .stop)
+    later = subst⁻¹ (λ (s : Span). RunsBy (m .game + 1) s (t .first) (t .stop)) (after .0) (λ g from. f .runs g (omega arith))
 
     go : (runs : Bool)
         → (leb (t .first) (m .game) && ltb (m .game) (t .stop)) ≡ runs
-        → Dues (t .due) (wonBy (t .number) log) (t .stop - max (t .first) (m .game)) (accepted (isClaimOf (t .number)) log)
-        → TicketTold (m .game + 1) (withBall b log) (cond runs (withDue t (t .due + awardAt (t .number) lines awards)) t)
-    go true runs (owed is none) =
-        let both = and-true _ _ runs in
-        let low : t .first ≤ m .game = leb-true (t .first) (m .game) (both .0) in
-        let high : m .game < t .stop = ltb-true (m .game) (t .stop) (both .1) in
-        let won : wonBy (t .number) (withBall b log) ≡ wonBy (t .number) log + awardNow b (t .number) log =
-        won-running b (t .number) log last (omega (arith, start)) (omega (arith, end)) in
-        record { span = f .span; dues = owed (omega arith) none }
-    go true runs (moved is none) =
+        → wonBy (t .number) (e ∷ log) ≡ wonBy (t .number) log + cond runs cents 0
+        → Dues (t .due) (wonBy (t .number) log) (t .stop - max (t .first) (m .game)) (payments (t .number) log)
+        → TicketTold (m .game + 1) (e ∷ log) (cond runs (withDue t (t .due + cents)) t)
+    go true runs more (owed is none) = record { runs = later; dues = owed (omega arith) (after .2 ∙ none) }
+    go true runs more (moved is none) =
         let both = and-true _ _ runs in
         let low : t .first ≤ m .game = leb-true (t .first) (m .game) (both .0) in
         let high : m .game < t .stop = ltb-true (m .game) (t .stop) (both .1) in
         absurd (omega arith)
-    go false idle (owed is none) =
-        let won : wonBy (t .number) (withBall b log) ≡ wonBy (t .number) log =
-        won-idle b (t .number) log last
-        (subst⁻¹ (λ (s : Span). min (s .stop - s .first) (suc (gameOf log) - s .first) ≡ min (s .stop - s .first) (gameOf log - s .first)) (f .span)
-        (subst⁻¹ (λ (g : ℕ). min (t .stop - t .first) (suc g - t .first) ≡ min (t .stop - t .first) (g - t .first)) game
-        (idle-count (t .first) (t .stop) (m .game) idle))) in
-        record { span = f .span; dues = owed (is ∙ sym won) none }
-    go false idle (moved is none) = record { span = f .span; dues = moved is (omega arith) }
+    go false idle more (owed is none) = record { runs = later; dues = owed (omega arith) (after .2 ∙ none) }
+    go false idle more (moved is none) = record { runs = later; dues = moved is (omega arith) }
 
 -- as many awards as tickets of the ledger that run in the game
 award-count : (m : Model) (b : ℕ) → length (settlement b (houseOf m) .awards) ≡ length (keep (runsIn (m .game)) (m .live))
@@ -570,15 +456,14 @@ told-settled : (m : Model) (log : Log) (b : ℕ)
     → settles b m ≡ true
     → sheetOf (withBall b log) ≡ sheetFor (withLive (gameSettled b (houseOf m)) (settledTickets b m))
     → Told (withLive (gameSettled b (houseOf m)) (settledTickets b m)) (withBall b log)
-unfolding gameSettled accepted keep
+unfolding gameSettled effectIn effectOf progressOf progressAfter payments paymentsAfter
 told-settled m log b orderly told last sheet =
     let size : length (m .balls ++ (b ∷ [])) ≡ length (m .balls) + 1 = length-append (m .balls) (b ∷ []) in
     let twenty : length (m .balls ++ (b ∷ [])) ≡ 20 = eqb-true (length (m .balls ++ (b ∷ []))) 20 last in
-    let nineteen : accepted isBall log % 20 ≡ 19 = omega (arith, balls-told m log orderly told) in
+    let nineteen : length (m .balls) ≡ 19 = omega arith in
     record {
       sheet = sheet;
-      balls = omega (arith, told .balls);
-      sells = told .sells;
+      progress = ap (λ (p : Progress). progressAfter p (draws b)) (told .progress) ∙ rw (eq-eqb (length (m .balls)) 19 nineteen);
       tickets =
           subst⁻¹ (λ (us : List Ticket). All after (map (finishedOn (m .day) (m .game + 1)) us))
           (awarded-by-number (m .game) 1 (m .live) (orderly .numbers) awards (award-count m b))
@@ -586,7 +471,8 @@ told-settled m log b orderly told last sheet =
           (λ t. finished-day (m .game + 1) (withBall b log) t (isFinished (m .game + 1) t && eqb (t .finishedDay) 0) (m .day))
           (map (awardedAt (m .game) lines awards) (m .live))
           (All-map (TicketTold (m .game) log) after (awardedAt (m .game) lines awards)
-          (λ t. settled-ticket m log b lines awards t (game-told m log orderly told) nineteen (award (t .number))) (m .live) (told .tickets)));
+          (λ t. settled-ticket m log (logged (ball b) 0) b lines awards t refl (game-told m log told) (balls-told m log told ∙ nineteen)
+          (award (t .number))) (m .live) (told .tickets)));
       once = told .once;
       unissued = told .unissued;
     }
@@ -621,7 +507,7 @@ told-ball m log b orderly told = go (settles b m) refl
         → sheetOf (withBall b log) ≡ sheetFor (ledger last)
         → Told (ledger last) (withBall b log)
     go true e = told-settled m log b orderly told e
-    go false e = told-early m log b orderly told e
+    go false e = told-early m log b told e
 
 -- what the log tells is kept by every accepted command
 pub told-after : (m : Model) (log : Log) (c : Command)
@@ -632,7 +518,7 @@ pub told-after : (m : Model) (log : Log) (c : Command)
     → Told (ledgerAfter m c) (logged c 0 ∷ log)
 told-after m log (open′ d) orderly told accept = told-open m log d told
 told-after m log (sell o) orderly told accept = told-sell m log o orderly told
-told-after m log (cancel n) orderly told accept = told-cancel m log n orderly told accept
+told-after m log (cancel n) orderly told accept = told-cancel m log n told
 told-after m log (ball b) orderly told accept = told-ball m log b orderly told
 told-after m log (claim n) orderly told accept = told-claim m log n orderly told accept
 told-after m log expire orderly told accept = told-expire m log told

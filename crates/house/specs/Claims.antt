@@ -1,12 +1,12 @@
 -- "A ticket is sold for its first game and those after it, as many as its Sell names. A game is drawn once its twentieth accepted ball is in."
--- What a ticket has won, told from the list of commands and the code that each was answered with: Sell gives the span of games, Cancel
--- shortens it, the twentieth accepted ball draws a game, and the rule book says what the game pays each ticket that runs in it.
-use Prim.Native.Nat.{ℕ, _+_, _-_, _/_, _%_, max}
+-- What the list of commands, and the code that each was answered with, tells of games, tickets and payments. It is told by the effects of the
+-- accepted commands: a ticket is issued for a span of games or has games taken off, the twentieth ball draws a game, the rule book says what the
+-- game pays each ticket that runs in it, and a ticket is paid what it has won.
+use Prim.Native.Nat.{ℕ, _+_, _-_, min}
 use mathlib.Core.Path.{_≡_}
-use mathlib.Core.Bool.{Bool, true, false, cond, _&&_}
+use mathlib.Core.Bool.{Bool, false, cond, _&&_, _||_}
 use mathlib.Core.List.{List, [], _∷_, map}
-use lib.Dec.{ltb, eqb}
-use lib.ListN.{length}
+use lib.Dec.{eqb}
 use Rattle.sale.specs.Lists.{sum, keep, member}
 use Rattle.house.specs.Command.{Command, open′, sell, cancel, ball, claim, expire, transfer}
 use Rattle.house.specs.Draws.{Different}
@@ -25,66 +25,107 @@ unfoldable pub sheetOf : Log → Sheet
 sheetOf [] = freshSheet
 sheetOf (e ∷ log) = feed (sheetOf log) (e .command) (e .code)
 
--- how many accepted commands pass a test
-unfoldable pub accepted : (Command → Bool) → Log → ℕ
-accepted f log = length (keep (λ e. eqb (e .code) 0 && f (e .command)) log)
+-- ---- effects
 
-abbrev pub isBall : Command → Bool
-isBall (open′ d) = false
-isBall (sell o) = false
-isBall (cancel n) = false
-isBall (ball b) = true
-isBall (claim n) = false
-isBall expire = false
-isBall (transfer j cents) = false
+-- what an accepted command does as far as games, tickets and payments go
+pub data Effect : Type 0 where
+  nothing : Effect
+  -- a ticket under the next number, for so many games
+  issues : ℕ → Effect
+  -- those games off a number that are not begun
+  takesOff : ℕ → Effect
+  -- a ball of the current game
+  draws : ℕ → Effect
+  -- all that a number has won
+  pays : ℕ → Effect
 
-abbrev pub isSell : Command → Bool
-isSell (open′ d) = false
-isSell (sell o) = true
-isSell (cancel n) = false
-isSell (ball b) = false
-isSell (claim n) = false
-isSell expire = false
-isSell (transfer j cents) = false
+unfoldable pub effectOf : Command → Effect
+effectOf (open′ d) = nothing
+effectOf (sell o) = issues (o .games)
+effectOf (cancel n) = takesOff n
+effectOf (ball b) = draws b
+effectOf (claim n) = pays n
+effectOf expire = nothing
+effectOf (transfer j cents) = nothing
 
-abbrev pub isClaimOf : ℕ → Command → Bool
-isClaimOf n (open′ d) = false
-isClaimOf n (sell o) = false
-isClaimOf n (cancel k) = false
-isClaimOf n (ball b) = false
-isClaimOf n (claim k) = eqb k n
-isClaimOf n expire = false
-isClaimOf n (transfer j cents) = false
+-- a refused command does nothing
+unfoldable pub effectIn : Logged → Effect
+effectIn e = cond (eqb (e .code) 0) (effectOf (e .command)) nothing
 
--- twenty accepted balls draw a game
+-- ---- games
+
+-- the current game, how many of its balls are in, and how many ticket numbers are issued
+pub record Progress : Type 0 where
+  pub game : ℕ
+  pub balls : ℕ
+  pub issued : ℕ
+
+-- the twentieth ball makes the next game current, without balls
+unfoldable pub progressAfter : Progress → Effect → Progress
+progressAfter p nothing = p
+progressAfter p (issues games) = record { game = p .game; balls = p .balls; issued = p .issued + 1 }
+progressAfter p (takesOff k) = p
+progressAfter p (draws b) =
+    cond (eqb (p .balls) 19)
+    (record { game = p .game + 1; balls = 0; issued = p .issued })
+    (record { game = p .game; balls = p .balls + 1; issued = p .issued })
+progressAfter p (pays k) = p
+
+unfoldable pub progressOf : Log → Progress
+progressOf [] = record { game = 1; balls = 0; issued = 0 }
+progressOf (e ∷ log) = progressAfter (progressOf log) (effectIn e)
+
 abbrev pub gameOf : Log → ℕ
-gameOf log = 1 + accepted isBall log / 20
+gameOf log = progressOf log .game
 
-abbrev pub drawn : Log → ℕ → Bool
-drawn log g = ltb g (gameOf log)
-
--- the current game, or the next when 1 to 19 of its balls are in
+-- the current game, or the next when balls are in
 abbrev pub nextOf : Log → ℕ
-nextOf log = cond (eqb (accepted isBall log % 20) 0) (gameOf log) (gameOf log + 1)
+nextOf log = cond (eqb (progressOf log .balls) 0) (gameOf log) (gameOf log + 1)
+
+-- whether the next ball is the twentieth of a game
+abbrev pub twentiethOf : Log → ℕ → Bool
+twentiethOf log g = eqb (progressOf log .balls) 19 && eqb (gameOf log) g
+
+unfoldable pub drawnAfter : ℕ → Log → Bool → Effect → Bool
+drawnAfter g log before nothing = before
+drawnAfter g log before (issues games) = before
+drawnAfter g log before (takesOff k) = before
+drawnAfter g log before (draws b) = twentiethOf log g || before
+drawnAfter g log before (pays k) = before
+
+unfoldable pub drawn : Log → ℕ → Bool
+drawn [] g = false
+drawn (e ∷ log) g = drawnAfter g log (drawn log g) (effectIn e)
+
+-- ---- a ticket's games
 
 -- the games that a ticket was sold for and had not cancelled: from the first up to the stop, none before its sale
 pub record Span : Type 0 where
   pub first : ℕ
   pub stop : ℕ
 
-unfoldable pub spanAfter : ℕ → Log → Span → Command → Span
-spanAfter n log s (open′ d) = s
-spanAfter n log s (sell o) =
-    cond (eqb (accepted isSell log + 1) n) (record { first = nextOf log; stop = nextOf log + o .games }) s
-spanAfter n log s (cancel k) = cond (eqb k n) (record { first = s .first; stop = max (s .first) (nextOf log) }) s
-spanAfter n log s (ball b) = s
-spanAfter n log s (claim k) = s
-spanAfter n log s expire = s
-spanAfter n log s (transfer j cents) = s
+-- the games of a span
+abbrev pub gamesOf : Span → List ℕ
+gamesOf s = gamesFrom (s .first) (s .stop - s .first)
+
+unfoldable pub spanAfter : ℕ → Log → Span → Effect → Span
+spanAfter n log s nothing = s
+spanAfter n log s (issues games) =
+    cond (eqb (progressOf log .issued + 1) n) (record { first = nextOf log; stop = nextOf log + games }) s
+spanAfter n log s (takesOff k) = cond (eqb k n) (record { first = s .first; stop = min (s .stop) (nextOf log) }) s
+spanAfter n log s (draws b) = s
+spanAfter n log s (pays k) = s
 
 unfoldable pub spanOf : ℕ → Log → Span
 spanOf n [] = record { first = 0; stop = 0 }
-spanOf n (e ∷ log) = cond (eqb (e .code) 0) (spanAfter n log (spanOf n log) (e .command)) (spanOf n log)
+spanOf n (e ∷ log) = spanAfter n log (spanOf n log) (effectIn e)
+
+-- who plays in the current game: a number plays just where its span has the game, and no number plays twice
+pub record PlaysExactly (log : Log) (players : List ℕ) : Type 0 where
+  pub exactly : (n : ℕ) → member n players ≡ member (gameOf log) (gamesOf (spanOf n log))
+  pub once : Different players
+
+-- ---- what is won and paid
 
 -- of the lines that play in a game and their awards, that of a number
 unfoldable pub awardAt : ℕ → List Line → List ℕ → ℕ
@@ -93,31 +134,30 @@ awardAt n (l ∷ ls) [] = 0
 awardAt n (l ∷ ls) (a ∷ awards) = cond (eqb (l .number) n) a (awardAt n ls awards)
 
 -- what a drawn game pays a ticket: its prizes as cut and its jackpot shares, by the settlement at the game's twentieth ball
-unfoldable pub awardAfter : ℕ → ℕ → Log → ℕ → Command → ℕ
-awardAfter n g log before (open′ d) = before
-awardAfter n g log before (sell o) = before
-awardAfter n g log before (cancel k) = before
-awardAfter n g log before (ball b) =
-    cond (eqb (gameOf log) g && eqb (accepted isBall log % 20) 19)
-    (awardAt n (playing (sheetOf log)) (sheetSettlement b (sheetOf log) .awards))
-    before
-awardAfter n g log before (claim k) = before
-awardAfter n g log before expire = before
-awardAfter n g log before (transfer j cents) = before
+unfoldable pub awardAfter : ℕ → ℕ → Log → ℕ → Effect → ℕ
+awardAfter n g log before nothing = before
+awardAfter n g log before (issues games) = before
+awardAfter n g log before (takesOff k) = before
+awardAfter n g log before (draws b) =
+    cond (twentiethOf log g) (awardAt n (playing (sheetOf log)) (sheetSettlement b (sheetOf log) .awards)) before
+awardAfter n g log before (pays k) = before
 
 unfoldable pub awardIn : ℕ → ℕ → Log → ℕ
 awardIn n g [] = 0
-awardIn n g (e ∷ log) = cond (eqb (e .code) 0) (awardAfter n g log (awardIn n g log) (e .command)) (awardIn n g log)
-
--- the games of a span
-abbrev pub gamesOf : Span → List ℕ
-gamesOf s = gamesFrom (s .first) (s .stop - s .first)
-
--- who plays in the current game: a number plays just where its span has the game, and no number plays twice
-pub record PlaysExactly (log : Log) (players : List ℕ) : Type 0 where
-  pub exactly : (n : ℕ) → member n players ≡ member (gameOf log) (gamesOf (spanOf n log))
-  pub once : Different players
+awardIn n g (e ∷ log) = awardAfter n g log (awardIn n g log) (effectIn e)
 
 -- everything that a ticket's drawn games won, of those that it was sold for and had not cancelled
 unfoldable pub wonBy : ℕ → Log → ℕ
 wonBy n log = sum (map (λ g. awardIn n g log) (keep (drawn log) (gamesOf (spanOf n log))))
+
+-- how many accepted commands pay a number
+unfoldable pub paymentsAfter : ℕ → ℕ → Effect → ℕ
+paymentsAfter n before nothing = before
+paymentsAfter n before (issues games) = before
+paymentsAfter n before (takesOff k) = before
+paymentsAfter n before (draws b) = before
+paymentsAfter n before (pays k) = cond (eqb k n) (before + 1) before
+
+unfoldable pub payments : ℕ → Log → ℕ
+payments n [] = 0
+payments n (e ∷ log) = paymentsAfter n (payments n log) (effectIn e)
