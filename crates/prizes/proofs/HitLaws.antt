@@ -10,7 +10,7 @@ use lib.Seq.{ext-getD, getD-set-same, getD-set-other, getD-drop, take-all, take-
 use Rattle.sale.specs.Lists.{keep}
 use Rattle.sale.specs.Ways.{markOf, sizeOf, byGroup, sizeWord}
 use Rattle.prizes.specs.Hits.{hitsOf}
-use Rattle.prizes.specs.Bounds.{Grouping}
+use Rattle.sale.specs.Bounds.{Grouping}
 use Rattle.prizes.specs.Found.{sizeIn, hitsIn, groupSizes, groupHits, wordSizes, sizeTable, GroupsOf}
 use Rattle.prizes.specs.declared.draw.Draw.{Draw}
 use Rattle.sale.proofs.MarkLaws.{size-same, size-other, size-le, length-byGroup, getD-byGroup}

@@ -1,8 +1,6 @@
 -- The bounds that some parts of prizes and jackpots ask of their callers, so that no sum or product passes 64 bits. Sell's operand checks and the
 -- laws on reached houses give them.
 use Prim.Native.Nat.{ℕ, _*_, _≤_, _<_, _^_}
-use mathlib.Core.List.{List}
-use lib.ListN.{getD}
 use Rattle.sale.specs.Price.{chargeLimit}
 use Rattle.prizes.specs.Prize.{majorFloor}
 use Rattle.prizes.specs.Cut.{majorsLimit}
@@ -53,7 +51,3 @@ pub record Contributing (j : Jackpot) (paid : ℕ) : Type 0 where
 pub record Seeding (j : Jackpot) (guarantee : ℕ) : Type 0 where
   pub room : Roomy j
   pub limit : guarantee < 2 ^ 63
-
--- marks that name one of the eight groups, or none
-pub record Grouping (marks : List ℕ) : Type 0 where
-  pub few : (n : ℕ) → getD marks n 0 ≤ 8

@@ -3,7 +3,7 @@ use crate::draw::Draw;
 ghost use mathlib.Core.Path.{_≡_};
 ghost use Prim.Native.Nat.{_*_, _%_};
 ghost use Rattle.sale.specs.Ways.{markOf};
-ghost use Rattle.prizes.specs.Bounds.{Grouping};
+ghost use Rattle.sale.specs.Bounds.{Grouping};
 ghost use Rattle.prizes.specs.Found.{sizeTable, GroupsOf};
 
 // The mark of a number, 0 for one that is not on the ticket.

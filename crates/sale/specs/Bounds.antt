@@ -42,3 +42,7 @@ pub record Countable (counts : List ℕ) : Type 0 where
 -- a table of bytes: that a lent one has no more in a place is for its lender to say
 pub record Bytes (table : List ℕ) : Type 0 where
   pub small : (k : ℕ) → getD table k 0 ≤ 255
+
+-- marks that name one of the eight groups, or none
+pub record Grouping (marks : List ℕ) : Type 0 where
+  pub few : (n : ℕ) → getD marks n 0 ≤ 8

@@ -19,7 +19,7 @@ use Rattle.prizes.specs.Prize.{majorFloor, isMajor}
 use Rattle.prizes.specs.Cut.{majorsLimit, payout}
 use Rattle.sale.specs.Ways.{sizes, sizeOf, sizeWord}
 use Rattle.prizes.specs.Hits.{hits}
-use Rattle.prizes.specs.Bounds.{Grouping}
+use Rattle.sale.specs.Bounds.{Grouping}
 use Rattle.prizes.specs.Found.{groupSizes, groupHits, wordSizes, GroupsOf, FoundWith}
 use Rattle.prizes.specs.Rounds.{payUnder, Pays, Listed, Raisable}
 use Rattle.prizes.specs.Settle.{prizesBy, fullBy}

@@ -21,7 +21,7 @@ ghost use Prim.Native.Nat.{ℕ};
 ghost use lib.Dec.{ltb, leb};
 ghost use lib.ListN.{length};
 ghost use Rattle.prizes.specs.Found.{Counting, GroupsOf};
-ghost use Rattle.prizes.specs.Bounds.{Grouping};
+ghost use Rattle.sale.specs.Bounds.{Grouping};
 ghost use Rattle.house.specs.Tickets.{termsOf};
 ghost use Rattle.house.specs.Balance.{Reached};
 ghost use Rattle.house.specs.View.{view, marksAt, ticketFrom, ticketIn};

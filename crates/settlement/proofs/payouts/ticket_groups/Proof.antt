@@ -5,7 +5,7 @@ use mathlib.Core.List.{List}
 use lib.ListN.{take, drop}
 use native.Mathlib.Omega.{arith}
 use borrow.Author.Needs.{needs}
-use Rattle.prizes.specs.Bounds.{Grouping}
+use Rattle.sale.specs.Bounds.{Grouping}
 use Rattle.prizes.specs.Found.{GroupsOf}
 use Rattle.house.specs.View.{marksAt}
 use Rattle.settlement.proofs.payouts.ticket_groups.Statement.{statement}
