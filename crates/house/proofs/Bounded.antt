@@ -1,14 +1,14 @@
 -- Bounds of every reached house, so that its figures fit 64 bits. Each command adds to what ever came in (charges, seeds) or was lost
 -- (contributions, prizes) no more than a fixed amount for each ticket and each game; the balance then bounds every other figure by these.
 use Prim.Native.Nat.{ℕ, suc, _+_, _-_, _*_, _^_, _≤_, _<_, min}
-use native.Mathlib.Nat.{mul-le-mul-left, mul-one, suc-mul, zero-mul, pow-le-pow-right}
+use native.Mathlib.Nat.{mul-le-mul-left, mul-one, suc-mul, zero-mul}
 use native.Mathlib.Omega.{arith}
 use mathlib.Core.Path.{_≡_, refl, ap, subst, subst⁻¹}
 use mathlib.Core.Bool.{Bool, true, false, cond, _||_, false≢true}
 use mathlib.Core.List.{List, [], _∷_, map, List·Memᴰ, List·Memᴰ·head, List·Memᴰ·tail}
-use lib.Dec.{ltb, eqb}
+use lib.Dec.{eqb}
 use lib.ListN.{length, length-append, length-map}
-use borrow.Author.Tests.{ltb-false, eqb-true}
+use borrow.Author.Tests.{eqb-true}
 use Rattle.sale.specs.Lists.{sum, keep, any, member}
 use Rattle.sale.specs.Ways.{ways}
 use Rattle.sale.specs.Price.{chargeLimit, paidGames, charge}
@@ -16,8 +16,9 @@ use Rattle.prizes.specs.Prize.{majorFloor}
 use Rattle.prizes.specs.Cut.{majorsLimit, payout}
 use Rattle.prizes.specs.Jackpots.{guaranteeOfSix, guaranteeOfEight}
 use Rattle.prizes.specs.Settle.{Entry}
-use Rattle.sale.specs.Bounds.{Sound}
-use Rattle.sale.specs.Checks.{Operands, operandCode, wayCount, chargeOf}
+use Rattle.sale.specs.Bounds.{Sound, Playable}
+use Rattle.prizes.specs.Bounds.{prizesLimit}
+use Rattle.sale.specs.Checks.{Operands, wayCount, chargeOf}
 use Rattle.prizes.specs.declared.jackpot.Jackpot.{Jackpot}
 use Rattle.prizes.specs.declared.draw.Draw.{Draw}
 use Rattle.sale.proofs.KeepLaws.{length-keep-le}
@@ -29,9 +30,9 @@ use Rattle.house.specs.Commands.{Command, open′, sell, cancel, ball, c
 use Rattle.house.specs.Till.{Figures, tillOf}
 use Rattle.house.specs.Balance.{Balanced}
 use Rattle.house.proofs.Ledger.{All, Kept, Orderly, withLive, houseOf, ticketsAfter, ledgerAfter}
-use Rattle.house.proofs.Refusals.{operands-accepted, sell-accepted, ball-accepted}
-use Rattle.house.proofs.SomeWay.{ways-some}
-use Rattle.sale.proofs.WayLaws.{ways-lt}
+use Rattle.house.proofs.Refusals.{sell-accepted, ball-accepted}
+use Rattle.house.proofs.CheckedOperands.{playable}
+use Rattle.sale.proofs.WayLaws.{ways-few}
 pub use Rattle.house.proofs.MoneyLaws.{all-kept}
 
 -- ---- lists
@@ -108,33 +109,9 @@ cut-within ps p found major = payout-le ps p (member-found p ps found)
 
 -- ---- one ticket
 
-paid-games-some : (games : ℕ) → 1 ≤ games → 1 ≤ paidGames games
-unfolding paidGames
-paid-games-some games some = go (ltb games 50) refl (ltb games 100)
-  where
-    go : (few : Bool) → ltb games 50 ≡ few → (most : Bool) → 1 ≤ cond few games (cond most (games - 1) (games - 2))
-    go true e most = some
-    go false e true = omega (arith, ltb-false games 50 e)
-    go false e false = omega (arith, ltb-false games 50 e)
-
--- the stakes of one game are at most the charge
-pub one-game-within : (o : Operands) → operandCode o ≡ 0 → o .stake * wayCount o ≤ chargeLimit
-unfolding charge
-one-game-within o e =
-    let a = operands-accepted o e in
-    let stakes = o .stake * wayCount o in
-    let once : stakes * 1 ≤ stakes * paidGames (o .games) = mul-le-mul-left stakes (paid-games-some (o .games) (a .someGames)) in
-    omega (arith, once, a .charge, mul-one stakes)
-
--- and so is the stake of one way
-pub stake-within : (o : Operands) → operandCode o ≡ 0 → o .stake ≤ chargeLimit
-stake-within o e =
-    let one : o .stake * 1 ≤ o .stake * wayCount o = mul-le-mul-left (o .stake) (ways-some o e) in
-    omega (arith, one, one-game-within o e, mul-one (o .stake))
-
 -- what the parts of the rule book ask of a ticket's terms
-pub terms-sound : (o : Operands) → operandCode o ≡ 0 → Sound (termsOf o)
-terms-sound o e = record { groups = operands-accepted o e .fewGroups; stake = stake-within o e }
+pub terms-sound : (o : Operands) → Playable o → Sound (termsOf o)
+terms-sound o p = record { groups = p .groups; stake = p .stake }
 
 -- a ticket's paid stakes of one game, which are all of its stakes for it or nothing
 pub game-paid-within : (game g : ℕ) (t : Ticket) → Kept game t → paidStakes g (g + 1) t ≤ chargeLimit
@@ -142,24 +119,24 @@ unfolding paidStakes charge
 game-paid-within game g t k =
     let stakes = t .operands .stake * t .ways in
     let once : stakes * (min (g + 1) (t .free) - min g (t .free)) ≤ stakes * 1 = mul-le-mul-left stakes (omega arith) in
-    let counted : stakes ≡ t .operands .stake * wayCount (t .operands) = ap (λ n. t .operands .stake * n) (k .counted) in
-    omega (arith, once, mul-one stakes, counted, one-game-within (t .operands) (k .checked))
+    let counted : stakes ≡ t .operands .stake * wayCount (t .operands) = ap (λ n. t .operands .stake * n) (k .fixed .counted) in
+    omega (arith, once, mul-one stakes, counted, k .fixed .playable .oneGame)
 
 -- those of any of its games: what is held for it, or paid back
 pub span-paid-within : (game from upto : ℕ) (t : Ticket) → Kept game t → t .first ≤ from → paidStakes from upto t ≤ chargeLimit
 unfolding paidStakes charge
 span-paid-within game from upto t k begun =
     let stakes = t .operands .stake * t .ways in
-    let games : min upto (t .free) - min from (t .free) ≤ paidGames (t .operands .games) = omega (arith, k .freeFrom) in
+    let games : min upto (t .free) - min from (t .free) ≤ paidGames (t .operands .games) = omega (arith, k .fixed .freeFrom) in
     let most : stakes * (min upto (t .free) - min from (t .free)) ≤ stakes * paidGames (t .operands .games) = mul-le-mul-left stakes games in
-    let counted : stakes * paidGames (t .operands .games) ≡ chargeOf (t .operands) = ap (λ n. t .operands .stake * n * paidGames (t .operands .games)) (k .counted) in
-    omega (arith, most, counted, operands-accepted (t .operands) (k .checked) .charge)
+    let counted : stakes * paidGames (t .operands .games) ≡ chargeOf (t .operands) = ap (λ n. t .operands .stake * n * paidGames (t .operands .games)) (k .fixed .counted) in
+    omega (arith, most, counted, k .fixed .playable .charge)
 
 -- ---- the ledger
 
--- what one game can lose: the prizes of 200 tickets of 256 ways at most, and contributions, which come from their paid stakes
+-- what one game can lose: the prizes of 200 tickets, and contributions, which come from their paid stakes
 abbrev pub perGame : ℕ
-perGame = liveLimit * (256 * majorsLimit) + liveLimit * chargeLimit
+perGame = liveLimit * prizesLimit + liveLimit * chargeLimit
 
 pub record Bounded (m : Model) : Type 0 where
   pub live : length (stillLive (m .game) (m .live)) ≤ liveLimit
@@ -195,21 +172,16 @@ live-few m (transfer j cents) e few = few
 
 -- the two bounds of an entry of a game
 record EntryBounded (x : Entry) : Type 0 where
-  few : length (ways (x .terms .groups) (x .terms .types)) ≤ 256
+  few : length (ways (x .terms .groups) (x .terms .types)) ≤ 255
   paid : x .paid ≤ chargeLimit
 
 abbrev withJackpots : Model → Jackpot → Jackpot → Model
 withJackpots m six eight =
     record { day = m .day; game = m .game; balls = m .balls; issued = m .issued; live = m .live; six = six; eight = eight; counters = m .counters }
 
-pub ways-within : (o : Operands) → operandCode o ≡ 0 → wayCount o ≤ 255
-ways-within o e =
-    let most : 2 ^ o .groups ≤ 2 ^ 8 = pow-le-pow-right (omega arith) (operands-accepted o e .fewGroups) in
-    omega (arith, ways-lt (o .groups) (o .types), most)
-
 entry-bounded : (game : ℕ) (t : Ticket) → Kept game t → EntryBounded (entryOf game t)
 entry-bounded game t k =
-    record { few = omega (arith, ways-within (t .operands) (k .checked)); paid = game-paid-within game game t k }
+    record { few = ways-few (t .operands .types) (k .fixed .playable .groups); paid = game-paid-within game game t k }
 
 module _ (m : Model) (ok : Orderly m) (few : length (stillLive (m .game) (m .live)) ≤ liveLimit) (b : ℕ) where
   entries : List Entry
@@ -238,7 +210,7 @@ module _ (m : Model) (ok : Orderly m) (few : length (stillLive (m .game) (m .liv
       omega (
         arith,
         entries-few,
-        prizes-within cut-within draw (m .six) (m .eight) entries 256 (λ x among. each-bounded x among .few),
+        prizes-within cut-within draw (m .six) (m .eight) entries 255 (λ x among. each-bounded x among .few),
         contributions-within draw (m .six) (m .eight) entries,
         sum-within (λ x. x .paid) chargeLimit entries (λ x among. each-bounded x among .paid),
       )
@@ -274,8 +246,7 @@ unfolding act opened sold cancelled gameSettled ballEntered claimed expired tran
 figures-after m (open′ d) ok b e few = omega arith
 figures-after m (sell o) ok b e few =
     let sale = sell-accepted (houseOf m) o e in
-    let operands = operands-accepted o (sale .checked) in
-    omega (arith, sale .numbered, operands .charge)
+    omega (arith, sale .numbered, playable o (sale .checked) .charge)
 figures-after m (cancel n) ok b e few = omega arith
 figures-after m (ball n) ok b e few = go (settles n (houseOf m)) (ticketsAfter m (ball n)) few
   where

@@ -19,7 +19,7 @@ use Rattle.house.specs.Commands.{Command, open′, sell, cancel, ball, c
 use Rattle.house.specs.Balance.{State, next, runFrom, Reached}
 use Rattle.house.specs.Draws.{Different, DifferentBalls, numbersOf, drawnOf, HitsDrawn}
 use Rattle.house.proofs.Ledger.{All}
-use Rattle.house.proofs.Refusals.{or-false, and-true, operands-accepted, ball-accepted}
+use Rattle.house.proofs.Refusals.{or-false, and-true, ball-accepted}
 use Rattle.house.proofs.MoneyLaws.{all-from, keep-map, keep-keep}
 use Rattle.house.proofs.RowLists.{length-table, getD-table, equal-or-not}
 use Rattle.house.proofs.OneCommand.{refused-unchanged, accepted-done}
@@ -230,6 +230,6 @@ pub hits-settled :
     → All (λ t. (k : ℕ) → HitsDrawn (ballsWith b m) (t .operands .marks) k) (m .live)
 hits-settled m b r e =
     all-from
-    (λ t kept k. hits-drawn (ballsWith b m) (t .operands .marks) k (draw-differs m b r e) (operands-accepted (t .operands) (kept .checked) .eighty))
+    (λ t kept k. hits-drawn (ballsWith b m) (t .operands .marks) k (draw-differs m b r e) (kept .fixed .playable .eighty))
     (m .live)
     (reached-sure m r .kept)

@@ -5,11 +5,12 @@ use mathlib.Core.Path.{_≡_}
 use mathlib.Core.Bool.{cond}
 use mathlib.Core.List.{List, [], _∷_, _++_, map}
 use lib.ListN.{length}
-use Rattle.sale.specs.Checks.{operandCode, wayCount}
+use Rattle.sale.specs.Checks.{wayCount}
 use Rattle.sale.specs.Price.{paidGames}
 use Rattle.sale.specs.Ways.{sizes, sizeWord}
 use Rattle.sale.specs.Kinds.{jackpotBy}
-use Rattle.house.specs.Tickets.{Ticket, termsOf, gamesLeft, withDue}
+use Rattle.sale.specs.Bounds.{Playable}
+use Rattle.house.specs.Tickets.{Ticket, termsOf, gamesLeft, withDue, withStop, withFinishedDay}
 use Rattle.house.specs.Model.{Model, gameLimit}
 use Rattle.house.specs.Commands.{Command, open′, sell, cancel, ball, claim, expire, transfer, act, stillLive, changed, cancelledTicket, soldTicket, settles, settlement, awarded, finishedOn, isExpired}
 use Rattle.house.specs.Till.{tillOf}
@@ -55,14 +56,21 @@ abbrev pub All : {A : Type 0} → (A → Type 0) → List A → Type 0
 All P [] = Unit {0}
 All P (x ∷ xs) = P x × All P xs
 
--- what holds of every ticket where the given game is the current one
-pub record Kept (game : ℕ) (t : Ticket) : Type 0 where
-  pub checked : operandCode (t .operands) ≡ 0
+-- what the sale of a ticket fixes
+pub record Fixed (t : Ticket) : Type 0 where
+  pub playable : Playable (t .operands)
   pub counted : t .ways ≡ wayCount (t .operands)
   pub playing : t .jackpot ≡ jackpotBy (termsOf (t .operands)) (sizes (t .operands .marks))
   pub sized : t .sizes ≡ sizeWord (sizes (t .operands .marks))
   pub freeFrom : t .free ≡ t .first + paidGames (t .operands .games)
-  pub begins : 1 ≤ t .first
+
+-- a ticket without what commands change of it: the end of its games, what it is due and its finishing day
+abbrev pub fixedPart : Ticket → Ticket
+fixedPart t = withFinishedDay (withDue (withStop t 0) 0) 0
+
+-- what holds of every ticket where the given game is the current one
+pub record Kept (game : ℕ) (t : Ticket) : Type 0 where
+  pub fixed : Fixed (fixedPart t)
   pub ends : t .stop ≤ gameLimit + 1
   -- the finishing day is set just where no game is left
   pub running : (gamesLeft game t ≡ 0 → ⊥) → t .finishedDay ≡ 0

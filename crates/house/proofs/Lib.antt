@@ -1,5 +1,6 @@
 pub mod Ledger
 pub mod Refusals
+pub mod CheckedOperands
 pub mod ListLaws
 pub mod LiveTickets
 pub mod OrderlyLedgers
@@ -14,7 +15,6 @@ pub mod Numbered
 pub mod AwardLaws
 pub mod Won
 pub mod Players
-pub mod SomeWay
 pub mod Bounded
 pub mod OneCommand
 pub mod Theorem

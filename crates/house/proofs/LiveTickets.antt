@@ -14,7 +14,8 @@ use Rattle.house.specs.Model.{Model, nextGame, isDrawing}
 use Rattle.house.specs.Commands.{Command, open′, sell, cancel, ball, claim, expire, transfer, codeOf, act, opened, sold, cancelled, gameSettled, ballEntered, claimed, expired, transferred, changed, stillLive, awarded, settles, settlement, finishedOn, cancelStop, cancelledTicket, soldTicket, isExpired}
 use Rattle.house.proofs.Ledger.{All, houseOf, withLive, ticketsAfter, ledgerAfter, Orderly}
 use Rattle.house.proofs.ListLaws.{cond-either, keep-snoc, keep-keep, keep-map-keep}
-use Rattle.house.proofs.Refusals.{and-true, sell-accepted, operands-accepted}
+use Rattle.house.proofs.Refusals.{and-true, sell-accepted}
+use Rattle.house.proofs.CheckedOperands.{playable}
 
 -- ---- closed tickets
 
@@ -203,7 +204,7 @@ pub live-after :
 unfolding act opened sold cancelled gameSettled ballEntered claimed expired transferred stillLive changed isExpired
 live-after m (open′ d) ok e = refl
 live-after m (sell o) ok e =
-    let games = operands-accepted o (sell-accepted (houseOf m) o e .checked) .someGames in
+    let games = playable o (sell-accepted (houseOf m) o e .checked) .someGames in
     sym (keep-snoc (isLive (m .game)) (m .live) (soldTicket m o) (sold-live m o games))
 live-after m (cancel n) ok e = unseen-drops m _ (λ t h. cond-either (Closed (m .game)) (eqb (t .number) n) (cancelled-closed m t h) h)
 live-after m (ball b) ok e = go (settles b m)

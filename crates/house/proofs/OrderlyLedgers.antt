@@ -10,18 +10,17 @@ use mathlib.Core.List.{List, [], _∷_, _++_, map}
 use lib.Dec.{eqb}
 use lib.ListN.{length, length-map, length-append}
 use borrow.Author.Tests.{eqb-true, eqb-false}
-use Rattle.sale.specs.Checks.{Operands, operandCode, wayCount}
-use Rattle.sale.specs.Price.{paidGames}
-use Rattle.sale.specs.Ways.{sizes, sizeWord}
-use Rattle.sale.specs.Kinds.{jackpotBy}
-use Rattle.house.specs.Tickets.{Ticket, termsOf, runsIn, gamesLeft, isFinished, withDue, withStop, withFinishedDay}
-use Rattle.house.specs.Model.{Model, Counters, fresh, gameLimit}
+use Rattle.sale.specs.Checks.{Operands}
+use Rattle.sale.specs.Bounds.{Playable}
+use Rattle.house.specs.Tickets.{Ticket, runsIn, gamesLeft, isFinished, withDue, withStop, withFinishedDay}
+use Rattle.house.specs.Model.{Model, Counters, fresh, gameLimit, nextGame}
 use Rattle.house.specs.Commands.{Command, open′, sell, cancel, ball, claim, expire, transfer, codeOf, act, opened, sold, cancelled, gameSettled, ballEntered, claimed, expired, transferred, changed, awarded, ballsWith, settles, settlement, finishedOn, cancelStop, cancelledTicket, soldTicket, isExpired}
 use Rattle.house.specs.Sheet.{gamesFrom}
-use Rattle.house.proofs.Ledger.{All, Kept, Orderly, houseOf, withLive, ledgerAfter}
+use Rattle.house.proofs.Ledger.{All, Fixed, fixedPart, Kept, Orderly, houseOf, withLive, ledgerAfter}
 use Rattle.house.proofs.ListLaws.{cond-either, All-append, All-map, map-append, map-same}
 use Rattle.house.proofs.LiveTickets.{finished-on-keeps, awardTo, awarded-keeps, all-awarded, next-game-least}
-use Rattle.house.proofs.Refusals.{SellAccepted, sell-accepted, operands-accepted, cancel-accepted, ball-accepted}
+use Rattle.house.proofs.Refusals.{SellAccepted, sell-accepted, cancel-accepted, ball-accepted}
+use Rattle.house.proofs.CheckedOperands.{playable}
 
 pub orderly-fresh : Orderly fresh
 unfolding gamesFrom
@@ -44,28 +43,22 @@ same-length ts us e = sym (length-map us (λ t. t .number)) ∙ ap length e ∙ 
 
 -- ---- one ticket
 
--- a ticket that is kept, but for the finishing day that its last game may have left to set
-record KeptButDay (game : ℕ) (t : Ticket) : Type 0 where
-  checked : operandCode (t .operands) ≡ 0
-  counted : t .ways ≡ wayCount (t .operands)
-  playing : t .jackpot ≡ jackpotBy (termsOf (t .operands)) (sizes (t .operands .marks))
-  sized : t .sizes ≡ sizeWord (sizes (t .operands .marks))
-  freeFrom : t .free ≡ t .first + paidGames (t .operands .games)
-  begins : 1 ≤ t .first
-  ends : t .stop ≤ gameLimit + 1
-  running : (gamesLeft game t ≡ 0 → ⊥) → t .finishedDay ≡ 0
-
-finished-on-kept : (day game : ℕ) (t : Ticket) → (day ≡ 0 → ⊥) → KeptButDay game t → Kept game (finishedOn day game t)
+-- with the day of its last game set, where it is not set yet
+finished-on-kept :
+    (day game : ℕ) (t : Ticket)
+    → (day ≡ 0 → ⊥)
+    → Fixed (fixedPart t)
+    → t .stop ≤ gameLimit + 1
+    → ((gamesLeft game t ≡ 0 → ⊥) → t .finishedDay ≡ 0)
+    → Kept game (finishedOn day game t)
 unfolding gamesLeft
-finished-on-kept day game t opened h = go (isFinished game t) (eqb (t .finishedDay) 0) refl refl
+finished-on-kept day game t opened fixed ends running = go (isFinished game t) (eqb (t .finishedDay) 0) refl refl
   where
     go : (a b : Bool) → isFinished game t ≡ a → eqb (t .finishedDay) 0 ≡ b → Kept game (cond (a && b) (withFinishedDay t day) t)
     go true true e f =
-        record { checked = h .checked; counted = h .counted; playing = h .playing; sized = h .sized; freeFrom = h .freeFrom; begins = h .begins; ends = h .ends; running = λ left. absurd (left (eqb-true _ _ e)); finished = λ none. opened }
-    go true false e f =
-        record { checked = h .checked; counted = h .counted; playing = h .playing; sized = h .sized; freeFrom = h .freeFrom; begins = h .begins; ends = h .ends; running = h .running; finished = λ none. eqb-false _ _ f }
-    go false b e f =
-        record { checked = h .checked; counted = h .counted; playing = h .playing; sized = h .sized; freeFrom = h .freeFrom; begins = h .begins; ends = h .ends; running = h .running; finished = λ none. absurd (eqb-false _ _ e none) }
+        record { fixed = fixed; ends = ends; running = λ left. absurd (left (eqb-true _ _ e)); finished = λ none. opened }
+    go true false e f = record { fixed = fixed; ends = ends; running = running; finished = λ none. eqb-false _ _ f }
+    go false b e f = record { fixed = fixed; ends = ends; running = running; finished = λ none. absurd (eqb-false _ _ e none) }
 
 cancelled-kept :
     (m : Model) (t : Ticket) → (m .day ≡ 0 → ⊥) → Kept (m .game) t → Kept (m .game) (cancelledTicket m t)
@@ -74,35 +67,32 @@ cancelled-kept m t opened h =
     finished-on-kept (m .day) (m .game)
     (withStop t (min (t .stop) (cancelStop m t)))
     opened
-    (record { checked = h .checked; counted = h .counted; playing = h .playing; sized = h .sized; freeFrom = h .freeFrom; begins = h .begins; ends = omega (arith, h .ends); running = λ left. h .running (λ none. left (omega (arith, none))) })
+    (h .fixed)
+    (omega (arith, h .ends))
+    (λ left. h .running (λ none. left (omega (arith, none))))
 
 paid-kept : (game cents : ℕ) (t : Ticket) → Kept game t → Kept game (withDue t cents)
 unfolding gamesLeft
-paid-kept game cents t h =
-    record { checked = h .checked; counted = h .counted; playing = h .playing; sized = h .sized; freeFrom = h .freeFrom; begins = h .begins; ends = h .ends; running = h .running; finished = h .finished }
+paid-kept game cents t h = record { fixed = h .fixed; ends = h .ends; running = h .running; finished = h .finished }
 
-later-kept : (game : ℕ) (t : Ticket) → Kept game t → KeptButDay (game + 1) t
+-- the next game is the current one
+later-kept : (day game : ℕ) (t : Ticket) → (day ≡ 0 → ⊥) → Kept game t → Kept (game + 1) (finishedOn day (game + 1) t)
 unfolding gamesLeft
-later-kept game t h =
-    record { checked = h .checked; counted = h .counted; playing = h .playing; sized = h .sized; freeFrom = h .freeFrom; begins = h .begins; ends = h .ends; running = λ left. h .running (λ none. left (omega (arith, none))) }
+later-kept day game t opened h =
+    finished-on-kept day (game + 1) t opened (h .fixed) (h .ends) (λ left. h .running (λ none. left (omega (arith, none))))
 
 award-kept : (game : ℕ) (t : Ticket) (awards : List ℕ) → Kept game t → Kept game (awardTo game awards t)
 award-kept game t [] h = h
 award-kept game t (a ∷ awards) h = cond-either (Kept game) (runsIn game t) (paid-kept game (t .due + a) t h) h
 
-sold-kept : (m : Model) (o : Operands) → 1 ≤ m .game → SellAccepted (houseOf m) o → Kept (m .game) (soldTicket m o)
+sold-kept : (m : Model) (o : Operands) → Playable o → nextGame m + o .games ≤ gameLimit + 1 → Kept (m .game) (soldTicket m o)
 unfolding gamesLeft
-sold-kept m o games h =
+sold-kept m o p ends =
     record {
-      checked = h .checked;
-      counted = refl;
-      playing = refl;
-      sized = refl;
-      freeFrom = refl;
-      begins = omega (arith, next-game-least m);
-      ends = h .ends;
+      fixed = record { playable = p; counted = refl; playing = refl; sized = refl; freeFrom = refl };
+      ends = ends;
       running = λ left. refl;
-      finished = λ none day. omega (arith, none, next-game-least m, operands-accepted o (h .checked) .someGames);
+      finished = λ none day. omega (arith, none, next-game-least m, p .someGames);
     }
 
 -- ---- the ledger
@@ -155,7 +145,7 @@ orderly-sold m o ok h =
     record {
       issued = omega (arith, longer, ok .issued);
       numbers = rw (longer, games-from-more 1 (length (m .live)), map-append (λ (t : Ticket). t .number) (m .live) (soldTicket m o ∷ []), ok .numbers, next);
-      tickets = All-append (Kept (m .game)) (m .live) (soldTicket m o ∷ []) (ok .tickets) (sold-kept m o (ok .games) h, tt);
+      tickets = All-append (Kept (m .game)) (m .live) (soldTicket m o ∷ []) (ok .tickets) (sold-kept m o (playable o (h .checked)) (h .ends), tt);
       balls = ok .balls;
       games = ok .games;
     }
@@ -173,7 +163,7 @@ orderly-settled m b ok opened =
     (awarded (m .game) awards (m .live))
     ∙ awarded-keeps (λ t. t .number) (λ t d. refl) (m .game) awards (m .live))
     (All-map (Kept (m .game)) (Kept (m .game + 1)) (finishedOn (m .day) (m .game + 1))
-    (λ t h. finished-on-kept (m .day) (m .game + 1) t opened (later-kept (m .game) t h))
+    (λ t. later-kept (m .day) (m .game) t opened)
     (awarded (m .game) awards (m .live))
     (all-awarded (Kept (m .game)) (Kept (m .game)) (m .game) (award-kept (m .game)) awards (m .live) (ok .tickets)))
     (omega arith)

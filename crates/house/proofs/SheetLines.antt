@@ -10,6 +10,7 @@ use lib.ListN.{length, length-map}
 use borrow.Author.Tests.{ltb-true, ltb-false, lt-leb, le-leb, le-ltb, lt-ltb, eqb-true, eqb-false, eq-eqb, ne-eqb}
 use Rattle.sale.specs.Lists.{keep}
 use Rattle.sale.specs.Checks.{Operands}
+use Rattle.prizes.specs.Expiry.{hasExpired}
 use Rattle.house.specs.Tickets.{Ticket, runsIn, gamesLeft, paidStakes, isFinished, isLive, withDue, withStop, withFinishedDay}
 use Rattle.house.specs.Model.{Model, isDrawing, nextGame}
 use Rattle.house.specs.Commands.{soldTicket, changed, cancelStop, cancelledTicket, finishedOn, awarded, isExpired}
@@ -190,8 +191,8 @@ positive n = go (eqb n 0) refl
 pub late-alike : (m : Model) (t : Ticket) → tooLate (sheetFor m) (lineOf (m .game) t) ≡ (isLive (m .game) t && isExpired m t)
 unfolding tooLate isExpired
 late-alike m t =
-    (λ i. positive (t .due) i && eqb (left-count (m .game) t i) 0 && ltb (t .finishedDay + 365) (m .day))
-    ∙ go (isFinished (m .game) t) (eqb (t .due) 0) (ltb (t .finishedDay + 365) (m .day))
+    (λ i. positive (t .due) i && eqb (left-count (m .game) t i) 0 && hasExpired (m .day) (t .finishedDay))
+    ∙ go (isFinished (m .game) t) (eqb (t .due) 0) (hasExpired (m .day) (t .finishedDay))
   where
     go : (done none late : Bool) → (not none && done && late) ≡ (not (done && none) && (done && late))
     go true true late = refl

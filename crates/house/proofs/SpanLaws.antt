@@ -217,8 +217,8 @@ unfolding stakesOf paidStakes
 stakes-of-line game t kept a c =
     let games : min (c - a) (t .free - a) ≡ min c (t .free) - min a (t .free) = omega arith in
     ap (λ free. charge (t .operands .stake) (wayCount (t .operands)) (length (keep (λ g. ltb g free) (gamesFrom a (c - a)))))
-    (sym (kept .freeFrom))
-    ∙ ap₂ (charge (t .operands .stake)) (sym (kept .counted))
+    (sym (kept .fixed .freeFrom))
+    ∙ ap₂ (charge (t .operands .stake)) (sym (kept .fixed .counted))
     (ap length (keep-below (t .free) a (c - a)) ∙ length-games a (min (c - a) (t .free - a)) ∙ games)
 
 pub stakes-of-game : (game : ℕ) (t : Ticket) → Kept game t → stakesOf (lineOf game t) (game ∷ []) ≡ paidStakes game (game + 1) t

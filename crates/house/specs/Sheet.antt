@@ -14,6 +14,7 @@ use Rattle.sale.specs.Price.{paidGames, charge}
 use Rattle.sale.specs.Checks.{Operands, wayCount, chargeOf}
 use Rattle.prizes.specs.Jackpots.{guaranteeOfSix, guaranteeOfEight, freshJackpot}
 use Rattle.prizes.specs.Settle.{Entry, Settled, settle}
+use Rattle.prizes.specs.Expiry.{hasExpired}
 use Rattle.prizes.specs.declared.jackpot.Jackpot.{Jackpot}
 use Rattle.house.specs.Command.{Command, open′, sell, cancel, ball, claim, expire, transfer}
 use Rattle.house.specs.Figures.{Figures}
@@ -231,7 +232,7 @@ sheetClaim n s =
 
 -- "Expire moves, from owed to unclaimed, each due above 0 of a line with no game left and finishing day + 365 less than today."
 unfoldable pub tooLate : Sheet → Line → Bool
-tooLate s l = ltb 0 (l .due) && eqb (length (l .left)) 0 && ltb (l .finishingDay + 365) (s .today)
+tooLate s l = ltb 0 (l .due) && eqb (length (l .left)) 0 && hasExpired (s .today) (l .finishingDay)
 
 abbrev pub lateDues : Sheet → List ℕ
 lateDues s = map (λ l. l .due) (keep (tooLate s) (s .lines))

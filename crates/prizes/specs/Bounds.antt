@@ -1,5 +1,5 @@
--- The bounds that some parts of prizes and jackpots ask of their callers, so that no sum or product passes 64 bits. Sell's operand checks and the
--- laws on reached houses give them.
+-- The bounds that some parts of prizes and jackpots ask of their callers, so that no sum or product passes 64 bits. Every sale (`Playable`) and
+-- the laws on reached houses give them.
 use Prim.Native.Nat.{ℕ, _*_, _≤_, _<_, _^_}
 use Rattle.sale.specs.Price.{chargeLimit}
 use Rattle.prizes.specs.Prize.{majorFloor}
@@ -51,3 +51,7 @@ pub record Contributing (j : Jackpot) (paid : ℕ) : Type 0 where
 pub record Seeding (j : Jackpot) (guarantee : ℕ) : Type 0 where
   pub room : Roomy j
   pub limit : guarantee < 2 ^ 63
+
+-- the most that a ticket's prizes of one game are together, jackpot shares aside: so much for each of 255 ways
+abbrev pub prizesLimit : ℕ
+prizesLimit = 255 * majorsLimit

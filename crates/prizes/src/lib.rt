@@ -1,6 +1,7 @@
 // The rule book of prizes: schedules, prizes, the cut of major prizes and the jackpots.
 pub mod cut;
 pub mod draw;
+pub mod expiry;
 mod figures;
 pub mod found;
 pub mod groups;

@@ -1,14 +1,15 @@
--- The bounds that some parts of a sale, and of the walk over ways, ask of their callers, so that no sum or product passes 64 bits. Sell's operand
--- checks give them.
+-- The bounds that some parts of a sale, and of the walk over ways, ask of their callers, so that no sum or product passes 64 bits. Every sale gives
+-- them (`Playable`).
 use Prim.Native.Nat.{ℕ, _*_, _-_, _≤_, _<_, _^_}
 use mathlib.Core.Path.{_≡_}
 use mathlib.Core.List.{List}
 use lib.ListN.{length, drop, getD}
 use Rattle.sale.specs.Ways.{maskSum}
 use Rattle.sale.specs.Price.{chargeLimit}
+use Rattle.sale.specs.Checks.{Operands, wayCount, chargeOf}
 use Rattle.sale.specs.declared.terms.Terms.{Terms}
 
--- what the operand checks give of a ticket's terms
+-- what every sale gives of a ticket's terms
 pub record Sound (t : Terms) : Type 0 where
   pub groups : t .groups ≤ 8
   pub stake : t .stake ≤ chargeLimit
@@ -46,3 +47,17 @@ pub record Bytes (table : List ℕ) : Type 0 where
 -- marks that name one of the eight groups, or none
 pub record Grouping (marks : List ℕ) : Type 0 where
   pub few : (n : ℕ) → getD marks n 0 ≤ 8
+
+-- The operands of a ticket, with the bounds that every sale gives, whichever checks it makes. That there are at most 255 ways follows from the
+-- groups.
+pub record Playable (o : Operands) : Type 0 where
+  pub kind : o .kind ≤ 3
+  pub someGames : 1 ≤ o .games
+  pub fewGames : o .games ≤ 100
+  pub groups : o .groups ≤ 8
+  pub types : o .types < 2 ^ 8
+  pub eighty : length (o .marks) ≡ 80
+  pub marks : Grouping (o .marks)
+  pub stake : o .stake ≤ chargeLimit
+  pub oneGame : o .stake * wayCount o ≤ chargeLimit
+  pub charge : chargeOf o ≤ chargeLimit

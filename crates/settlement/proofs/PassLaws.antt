@@ -11,7 +11,6 @@ use lib.ListN.{length, take, drop, getD, length-map, take-append-drop}
 use lib.Seq.{take-suc}
 use borrow.Author.Tests.{leb-true}
 use Rattle.sale.specs.Lists.{sum, keep}
-use Rattle.sale.specs.Checks.{operandCode}
 use Rattle.prizes.specs.Prize.{majorFloor, isMajor}
 use Rattle.prizes.specs.Cut.{payout}
 use Rattle.sale.specs.Ways.{ways, sizes}
@@ -22,7 +21,7 @@ use Rattle.sale.specs.declared.terms.Terms.{Terms}
 use Rattle.prizes.proofs.PrizeLaws.{prize-bound}
 use Rattle.sale.proofs.WayLaws.{ways-few}
 use Rattle.prizes.proofs.CutFloors.{member-kept}
-use Rattle.sale.specs.Bounds.{Sound}
+use Rattle.sale.specs.Bounds.{Sound, Playable}
 use Rattle.house.specs.Tickets.{Ticket, runsIn, termsOf, entryOf}
 use Rattle.house.proofs.Bounded.{terms-sound}
 use Rattle.house.proofs.MoneyLaws.{all-of, map-same}
@@ -109,14 +108,14 @@ by-few : (t : Terms) (ss hs : List ℕ) → Sound t → length (prizesBy t ss hs
 unfolding prizesBy
 by-few t ss hs sound = subst (λ n. n ≤ 255) (sym (length-map (ways (t .groups) (t .types)) _)) (ways-few (t .types) (sound .groups))
 
-module _ (game : ℕ) (draw : Draw) (t : Ticket) (checked : operandCode (t .operands) ≡ 0) where
+module _ (game : ℕ) (draw : Draw) (t : Ticket) (playable : Playable (t .operands)) where
   pub prizes-small : (p : ℕ) → List·Memᴰ p (prizesAt game draw t) → p < 2 ^ 40
   unfolding prizesAt
   prizes-small p m = go (runsIn game t) m
     where
       go : (b : Bool) → List·Memᴰ p (cond b (wayPrizes draw (entryOf game t)) []) → p < 2 ^ 40
       go true k =
-          by-small (termsOf (t .operands)) (sizes (t .operands .marks)) (hits draw (t .operands .marks)) (terms-sound (t .operands) checked) p k
+          by-small (termsOf (t .operands)) (sizes (t .operands .marks)) (hits draw (t .operands .marks)) (terms-sound (t .operands) playable) p k
       go false k = elim k [ ]
 
   pub prizes-few : length (prizesAt game draw t) ≤ 255
@@ -124,7 +123,7 @@ module _ (game : ℕ) (draw : Draw) (t : Ticket) (checked : operandCode (t .oper
   prizes-few = go (runsIn game t)
     where
       go : (b : Bool) → length (cond b (wayPrizes draw (entryOf game t)) []) ≤ 255
-      go true = by-few (termsOf (t .operands)) (sizes (t .operands .marks)) (hits draw (t .operands .marks)) (terms-sound (t .operands) checked)
+      go true = by-few (termsOf (t .operands)) (sizes (t .operands .marks)) (hits draw (t .operands .marks)) (terms-sound (t .operands) playable)
       go false = omega arith
 
 -- ---- the tickets of a game

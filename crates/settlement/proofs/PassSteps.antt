@@ -2,24 +2,24 @@
 -- what a reached house gives.
 use Prim.Native.Nat.{ℕ, zero, suc, _+_, _*_, _-_, _≤_, _<_, _^_}
 use mathlib.Core.Path.{_≡_, refl, sym, ap, ap₂, _∙_, subst}
-use mathlib.Core.Bool.{Bool, true, false, cond, not, _&&_}
+use mathlib.Core.Bool.{Bool, true, false, cond, _&&_}
 use mathlib.Core.Logic.{⊎-elim}
 use mathlib.Core.List.{List, [], _∷_, _++_, map, map-map, map-append, append-assoc, List·Memᴰ, List·Memᴰ·head, List·Memᴰ·tail}
-use native.Mathlib.Nat.{pow-le-pow-right, le-of-suc-le-suc, add-zero, zero-add, le-trans, mul-le-mul-right}
+use native.Mathlib.Nat.{le-of-suc-le-suc, add-zero, zero-add, le-trans, mul-le-mul-right}
 use native.Mathlib.Numerals.{add-one}
 use native.Mathlib.Decide.{decLt}
 use native.Mathlib.Omega.{arith}
-use lib.Dec.{ltb, leb, eqb}
+use lib.Dec.{ltb, leb}
 use borrow.Author.Tests.{leb-true, leb-false}
 use lib.ListN.{length, take, drop, set, getD, length-append, length-map, length-set, List·getD-eq-default, replicate, length-replicate}
 use lib.Seq.{sets, take-all, take-suc-set, take-append-le, drop-append-seam, take-at, getD-take, getD-set-other, ext-getD, sets-eq, length-sets}
-use Rattle.sale.specs.Lists.{sum, below, keep, every}
-use Rattle.sale.specs.Checks.{operandCode, marksFit}
+use Rattle.sale.specs.Lists.{sum, below, keep}
 use Rattle.prizes.specs.Prize.{majorFloor, isMajor}
 use Rattle.prizes.specs.Cut.{majorsLimit, payout}
 use Rattle.sale.specs.Ways.{sizes, sizeOf, sizeWord}
 use Rattle.prizes.specs.Hits.{hits}
-use Rattle.sale.specs.Bounds.{Grouping}
+use Rattle.sale.specs.Bounds.{Playable}
+use Rattle.prizes.specs.Bounds.{prizesLimit}
 use Rattle.prizes.specs.Found.{groupSizes, groupHits, wordSizes, GroupsOf, FoundWith}
 use Rattle.prizes.specs.Rounds.{payUnder, Pays, Listed, Raisable}
 use Rattle.prizes.specs.Settle.{prizesBy, fullBy}
@@ -42,52 +42,28 @@ use Rattle.settlement.specs.Passing.{liveIn, prizesBelow, sureCents, all
 use Rattle.house.specs.declared.state.House.{House}
 use Rattle.house.specs.declared.rows.Row.{Row}
 use Rattle.house.proofs.Ledger.{All, Kept}
-use Rattle.house.proofs.Refusals.{and-true, operands-accepted}
-use Rattle.house.proofs.Bounded.{stake-within}
 use Rattle.house.proofs.ReachedHouses.{reached-sure}
 use Rattle.house.proofs.RowLists.{getD-map, length-table, getD-table}
 use Rattle.settlement.proofs.PassLaws.{member-append, majors-snoc, majors-next, majors-split, own-major, majors-all, majors-large, prizes-small, prizes-few, paid-spread, matches-spread}
 
 -- ---- one ticket, from its row
 
-every-le : (g : ℕ) (xs : List ℕ) → every (λ m. leb m g) xs ≡ true → (n : ℕ) → getD xs n 0 ≤ g
-unfolding every
-every-le g [] e n = omega arith
-every-le g (x ∷ xs) e zero = leb-true x g (and-true (leb x g) (every (λ m. leb m g) xs) e .0)
-every-le g (x ∷ xs) e (suc n) = every-le g xs (and-true (leb x g) (every (λ m. leb m g) xs) e .1) n
-
-marks-within : (g : ℕ) (marks : List ℕ) → marksFit g marks ≡ true → every (λ m. leb m g) marks ≡ true
-unfolding marksFit
-marks-within g marks e =
-    and-true (eqb (length marks) 80) (every (λ m. leb m g) marks)
-    (and-true (eqb (length marks) 80 && every (λ m. leb m g) marks) (every (λ n. not (eqb n 0)) (take g (sizes marks))) e .0)
-    .1
-
 module _ (w : Row) (own : List ℕ) where
-  -- the words of a row that Sell accepted fit the fields of the terms
-  pub row-narrow : operandCode (ticketFrom w own .operands) ≡ 0 → Narrow w
-  row-narrow checked =
-      let o = ticketFrom w own .operands in
-      let accepted = operands-accepted o checked in
-      let most : 2 ^ w .groups ≤ 2 ^ 8 = pow-le-pow-right (omega arith) (accepted .fewGroups) in
+  -- the words of its row fit the fields of the terms
+  pub row-narrow : Playable (ticketFrom w own .operands) → Narrow w
+  row-narrow p =
       record {
-        kind = omega arith;
-        games = omega arith;
-        stake = omega (arith, stake-within o checked);
-        groups = omega arith;
-        types = omega arith;
+        kind = omega (arith, p .kind);
+        games = omega (arith, p .fewGames);
+        stake = omega (arith, p .stake);
+        groups = omega (arith, p .groups);
+        types = p .types;
       }
-
-  -- its marks name no group past the eighth
-  pub row-grouping : operandCode (ticketFrom w own .operands) ≡ 0 → Grouping own
-  row-grouping checked =
-      let accepted = operands-accepted (ticketFrom w own .operands) checked in
-      record { few = λ n. le-trans (every-le (w .groups) own (marks-within (w .groups) own (accepted .marks)) n) (accepted .fewGroups) }
 
   -- the sizes in its word are those of its marks
   pub row-sizes : Sold (ticketFrom w own) → wordSizes 8 (w .sizes) ≡ sizes own
   row-sizes sold =
-      let eighty : length own ≡ 80 = operands-accepted (ticketFrom w own .operands) (sold .checked) .eighty in
+      let eighty : length own ≡ 80 = sold .playable .eighty in
       ap (wordSizes 8) (sold .sized)
       ∙ ap (λ n. wordSizes n (sizeWord (sizes own))) (sym (length-byGroup (sizeOf own)))
       ∙ word-sizes (sizes own) (λ i. omega (arith, figure-le own i))
@@ -249,12 +225,12 @@ module _ (words marks : List ℕ) (game : ℕ) (draw : Draw) (live : ℕ) where
       ∙ majors-snoc (below-i i) (prizesAt game draw (ticketAt i))
 
   module _ {before : List ℕ} {i : ℕ} {sure full ends majors : List ℕ} {count : ℕ} (f : Finding before i sure full ends majors count) where
-    pub finding-more : i < live → live ≤ 200 → operandCode (ticketIn words marks i .operands) ≡ 0 → (r : Found) {majors′ : List ℕ}
+    pub finding-more : i < live → live ≤ 200 → Playable (ticketIn words marks i .operands) → (r : Found) {majors′ : List ℕ}
         → FoundAt game draw (ticketIn words marks i) count majors r majors′
         → Finding before (i + 1) (set sure i (r .sure)) (set full i (r .full)) (set ends i (r .majors)) majors′ (r .majors)
-    finding-more inside most checked r a =
+    finding-more inside most playable r a =
         let own = keep isMajor (prizesAt game draw (ticketAt i)) in
-        let own-few : length own ≤ 255 = omega (arith, length-keep-le isMajor (prizesAt game draw (ticketAt i)), prizes-few game draw (ticketAt i) checked) in
+        let own-few : length own ≤ 255 = omega (arith, length-keep-le isMajor (prizesAt game draw (ticketAt i)), prizes-few game draw (ticketAt i) playable) in
         let counted : r .majors ≡ length (allMajors (below-i (i + 1))) =
         a .count ∙ ap (λ n. n + length own) (f .together) ∙ sym (ap length (majors-more i) ∙ length-append (allMajors (below-i i)) own) in
         record {
@@ -369,7 +345,7 @@ module _ (pss : List (List ℕ)) (sure ends majors : List ℕ) (c : Cut) (k : Cu
         ∙ sym (paid-raised all (getD pss i []) own-least)
 
     -- no ticket is paid more than the limit for each way
-    pub paid-small : paidTo i ≤ 255 * majorsLimit
+    pub paid-small : paidTo i ≤ prizesLimit
     paid-small =
         le-trans (sum-within (payout all) majorsLimit (getD pss i []) each) (mul-le-mul-right majorsLimit (k .ways i))
       where
@@ -430,7 +406,7 @@ reached-sold h words marks r =
       each =
           λ i inside.
           let kept = all-at (Kept (h .game)) (liveIn words marks (h .live)) i blankTicket (sure .kept) (omega arith) in
-          subst Sold (getD-table (ticketIn words marks) (h .live) i blankTicket inside) (record { checked = kept .checked; sized = kept .sized });
+          subst Sold (getD-table (ticketIn words marks) (h .live) i blankTicket inside) (record { playable = kept .fixed .playable; sized = kept .fixed .sized });
     }
 
 -- what holds of each place of a table holds of its members
@@ -465,12 +441,12 @@ module _ (h : House) (words marks : List ℕ) (draw : Draw) (sold : SoldAll word
   small =
       majors-all (λ p. p < 2 ^ 40) found
       (table-members prizeAt (λ ps. (p : ℕ) → List·Memᴰ p ps → p < 2 ^ 40) (h .live)
-      (λ k inside. prizes-small (h .game) draw (ticketIn words marks k) (sold .each k inside .checked)))
+      (λ k inside. prizes-small (h .game) draw (ticketIn words marks k) (sold .each k inside .playable)))
 
   ways-le : (i : ℕ) → Dec (i < h .live) → length (getD found i []) ≤ 255
   ways-le i (yes inside) =
       subst (λ (l : List ℕ). length l ≤ 255) (sym (getD-table prizeAt (h .live) i [] inside))
-      (prizes-few (h .game) draw (ticketIn words marks i) (sold .each i inside .checked))
+      (prizes-few (h .game) draw (ticketIn words marks i) (sold .each i inside .playable))
   ways-le i (no past) = rw (List·getD-eq-default found [] {n = i} (omega (arith, found-count))) (omega arith)
 
   -- 250 major prizes or more are paid what is sure

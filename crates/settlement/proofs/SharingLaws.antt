@@ -23,6 +23,7 @@ use Rattle.prizes.specs.Settle.{Entry, fullBy, fullMatches, playsFor, winnerOf,
 use Rattle.prizes.specs.declared.draw.Draw.{Draw}
 use Rattle.prizes.specs.declared.jackpot.Jackpot.{Jackpot}
 use Rattle.sale.proofs.KeepLaws.{length-keep-le}
+use Rattle.sale.proofs.WayLaws.{ways-few}
 use Rattle.house.specs.Tickets.{Ticket, runsIn, paidStakes, entryOf}
 use Rattle.house.specs.View.{rowOf, ticketIn, view}
 use Rattle.house.specs.Balance.{Reached}
@@ -34,7 +35,6 @@ use Rattle.settlement.specs.declared.figures.Stakes.{Stakes}
 use Rattle.settlement.specs.Sharing.{paidAt, paidIn, stakesAt, stakesIn, winnerAt, winnersIn, stakesOf, Entered, Shareable}
 use Rattle.house.proofs.Ledger.{Kept}
 use Rattle.house.proofs.ListLaws.{cond-either, map-append}
-use Rattle.house.proofs.Bounded.{one-game-within, stake-within, ways-within}
 use Rattle.house.proofs.RisingNumbers.{all-at}
 use Rattle.house.proofs.ReachedHouses.{reached-sure}
 use Rattle.settlement.proofs.SpreadLaws.{spread-runs, spread-rests, spread-entries, spread-added, sum-spread}
@@ -543,7 +543,7 @@ module _
             omega (
               arith,
               length-keep-le (λ m. eqb (maskSum m (hits draw (ticket i .operands .marks))) (maskSum m (sizes (ticket i .operands .marks)))) (ways (ticket i .operands .groups) (ticket i .operands .types)),
-              ways-within (ticket i .operands) (kept-at i b .checked),
+              ways-few (ticket i .operands .types) (kept-at i b .fixed .playable .groups),
             )
         go false = omega arith
 
@@ -553,9 +553,9 @@ module _
           few = live-few;
           within = λ i b.
               let kept = kept-at i b in
-              let counted : ticket i .operands .stake * ticket i .ways ≡ ticket i .operands .stake * wayCount (ticket i .operands) = ap (λ n. ticket i .operands .stake * n) (kept .counted) in
-              omega (arith, counted, one-game-within (ticket i .operands) (kept .checked));
-          stakes = λ i b. stake-within (ticket i .operands) (kept-at i b .checked);
+              let counted : ticket i .operands .stake * ticket i .ways ≡ ticket i .operands .stake * wayCount (ticket i .operands) = ap (λ n. ticket i .operands .stake * n) (kept .fixed .counted) in
+              omega (arith, counted, kept .fixed .playable .oneGame);
+          stakes = λ i b. kept-at i b .fixed .playable .stake;
           ways = full-few;
         }
 
@@ -565,7 +565,7 @@ module _
           → stakesAt words (h .game) j i
           ≡ cond (runsIn (h .game) (ticket i)) (cond (playsFor j (entryOf (h .game) (ticket i))) (paidStakes (h .game) (h .game + 1) (ticket i)) 0) 0
       unfolding stakesAt paidAt runsIn paidStakes
-      stakes-at i b = rw (← kept-at i b .playing) (go (eqb (ticket i .jackpot) j) (runsIn (h .game) (ticket i)) (paidStakes (h .game) (h .game + 1) (ticket i)))
+      stakes-at i b = rw (← kept-at i b .fixed .playing) (go (eqb (ticket i .jackpot) j) (runsIn (h .game) (ticket i)) (paidStakes (h .game) (h .game + 1) (ticket i)))
         where
           go : (plays runs : Bool) (n : ℕ) → cond plays (cond runs n 0) 0 ≡ cond runs (cond plays n 0) 0
           go true true n = refl
@@ -588,7 +588,7 @@ module _
       unfolding winnerAt winnerOf
       winner-at i b =
           ap (λ n. winner n)
-          (rw (full-at i b, ← kept-at i b .playing) (go (eqb (ticket i .jackpot) j) (runsIn (h .game) (ticket i)) (fullMatches draw (entryOf (h .game) (ticket i)))))
+          (rw (full-at i b, ← kept-at i b .fixed .playing) (go (eqb (ticket i .jackpot) j) (runsIn (h .game) (ticket i)) (fullMatches draw (entryOf (h .game) (ticket i)))))
         where
           winner : ℕ → Winner
           winner n = record { count = n; stake = ticket i .operands .stake }

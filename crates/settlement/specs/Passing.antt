@@ -5,10 +5,10 @@ use mathlib.Core.List.{List, [], _∷_, _++_, map, List·Memᴰ}
 use lib.ListN.{length, take, getD}
 use lib.Seq.{sets}
 use Rattle.sale.specs.Lists.{sum, below, keep}
-use Rattle.sale.specs.Checks.{operandCode}
 use Rattle.sale.specs.Ways.{sizes, sizeWord}
 use Rattle.prizes.specs.Prize.{isMajor}
 use Rattle.prizes.specs.Cut.{payout}
+use Rattle.sale.specs.Bounds.{Playable}
 use Rattle.prizes.specs.Found.{sureOf}
 use Rattle.prizes.specs.Rounds.{Pays}
 use Rattle.prizes.specs.declared.draw.Draw.{Draw}
@@ -36,9 +36,9 @@ unfoldable pub allMajors : List (List ℕ) → List ℕ
 allMajors [] = []
 allMajors (ps ∷ pss) = keep isMajor ps ++ allMajors pss
 
--- a ticket with operands that Sell accepts, and the sizes of its groups
+-- a ticket with the bounds that every sale gives, and the sizes of its groups
 pub record Sold (t : Ticket) : Type 0 where
-  pub checked : operandCode (t .operands) ≡ 0
+  pub playable : Playable (t .operands)
   pub sized : t .sizes ≡ sizeWord (sizes (t .operands .marks))
 
 -- such a ticket at a place of the buffers

@@ -1,19 +1,19 @@
 -- Laws of Expire: which tickets have expired, what is left of a list of tickets as they are passed one by one, and the house without those that
 -- have.
-use Prim.Native.Nat.{ℕ, zero, suc, _+_, _-_, _≤_, _<_, max}
+use Prim.Native.Nat.{ℕ, zero, suc, _+_, _≤_, _<_}
 use native.Mathlib.Nat.{add-zero, not-suc-le-zero, le-of-suc-le-suc}
 use native.Mathlib.Numerals.{add-one}
 use native.Mathlib.Omega.{arith}
 use mathlib.Core.Path.{_≡_, refl, sym, ap, _∙_}
 use mathlib.Core.Bool.{Bool, true, false, cond, not, _&&_}
 use mathlib.Core.List.{List, [], _∷_, _++_, map, append-nil}
-use lib.Dec.{eqb, leb, ltb}
 use lib.ListN.{length, getD, set, take, drop, length-append}
 use lib.Seq.{take-suc, getD-drop, take-suc-set, drop-set-lt, drop-drop}
-use borrow.Author.Tests.{eq-eqb, ne-eqb, lt-ltb, le-ltb, leb-true, leb-false, eqb-true}
+use borrow.Author.Tests.{eq-eqb, ne-eqb, eqb-true}
 use Rattle.sale.specs.Lists.{sum, keep}
 use Rattle.sale.specs.Checks.{firstMet}
-use Rattle.house.specs.Tickets.{Ticket, gamesLeft, isLive, withDue}
+use Rattle.prizes.specs.Expiry.{hasExpired}
+use Rattle.house.specs.Tickets.{Ticket, gamesLeft, isFinished, isLive, withDue}
 use Rattle.house.specs.Model.{Model, fresh, withUnclaimed}
 use Rattle.house.specs.Commands.{blankTicket, expire, rowsOf, codeOf, stillLive, isExpired, expiring, expired}
 use Rattle.house.specs.View.{ticketsOf, view}
@@ -46,24 +46,15 @@ and-also : (a b : Bool) → b ≡ true → a ≡ (a && b)
 and-also true b e = sym e
 and-also false b e = refl
 
--- finished, and the finishing day + 365 is less than today
-module _ (game day first stop finished : ℕ) where
-  pub in-time : day ≤ finished + 365 → false ≡ (eqb (stop - max first game) 0 && ltb (finished + 365) day)
-  in-time h = and-not (eqb (stop - max first game) 0) (ltb (finished + 365) day) (le-ltb (finished + 365) day h)
+-- by a finishing day whose twelve months are not over, no ticket has expired
+pub in-time : (m : Model) (t : Ticket) → hasExpired (m .day) (t .finishedDay) ≡ false → false ≡ isExpired m t
+unfolding isExpired
+in-time m t e = and-not (isFinished (m .game) t) (hasExpired (m .day) (t .finishedDay)) e
 
-  module _ (late : finished + 365 < day) where
-    late-by : (b : Bool) → b ≡ eqb (stop - max first game) 0 → b ≡ (eqb (stop - max first game) 0 && ltb (finished + 365) day)
-    late-by b e = e ∙ and-also (eqb (stop - max first game) 0) (ltb (finished + 365) day) (lt-ltb (finished + 365) day late)
-
-    pub late-drawn : stop ≤ game → true ≡ (eqb (stop - max first game) 0 && ltb (finished + 365) day)
-    late-drawn h = late-by true (sym (eq-eqb (stop - max first game) 0 (omega arith)))
-
-    pub late-begun : game < stop → leb stop first ≡ (eqb (stop - max first game) 0 && ltb (finished + 365) day)
-    late-begun h = late-by (leb stop first) (go (leb stop first) refl)
-      where
-        go : (b : Bool) → leb stop first ≡ b → b ≡ eqb (stop - max first game) 0
-        go true e = sym (eq-eqb (stop - max first game) 0 (omega (arith, leb-true stop first e)))
-        go false e = sym (ne-eqb (stop - max first game) 0 (omega (arith, leb-false stop first e)))
+-- by another, each that is finished
+pub late : (m : Model) (t : Ticket) → hasExpired (m .day) (t .finishedDay) ≡ true → isFinished (m .game) t ≡ isExpired m t
+unfolding isExpired
+late m t e = and-also (isFinished (m .game) t) (hasExpired (m .day) (t .finishedDay)) e
 
 -- a house of which only the game and the day count
 abbrev pub onDay : ℕ → ℕ → Model

@@ -2,13 +2,13 @@
 use house::answer::Outcome;
 use house::answer::accepted;
 use house::answer::refused;
+use house::rows::is_finished;
 use house::rows::move_ticket;
 use house::state::House;
+use prizes::expiry::has_expired;
 ghost use mathlib.Core.Path.{_≡_};
-ghost use mathlib.Core.Bool.{_&&_};
 ghost use mathlib.Core.List.{List, map};
-ghost use Prim.Native.Nat.{ℕ, _+_, _-_, _^_, _≤_, _<_, max};
-ghost use lib.Dec.{ltb, eqb};
+ghost use Prim.Native.Nat.{ℕ, _^_, _≤_, _<_};
 ghost use Rattle.sale.specs.Lists.{sum};
 ghost use Rattle.house.specs.Model.{Model};
 ghost use Rattle.house.specs.Commands.{isExpired, expire};
@@ -23,29 +23,16 @@ struct Sweep {
     cents: u64,
 }
 
-// Whether a ticket of these games is finished, and its finishing day + 365 is less than today. No day is added to, so none is too large.
-fn has_expired(game: u64, day: u64, first: u64, stop: u64, finished: u64) -> bool
-    ensures { λ r. ⌜ r ≡ eqb (stop - max first game) 0 && ltb (finished + 365) day ⌝ }
-{
-    if day < 365 {
-        return false;
-    }
-    if day - 365 <= finished {
-        return false;
-    }
-    if stop <= game {
-        return true;
-    }
-    stop <= first
-}
-
-// Whether the ticket at a place has expired.
+// Whether the ticket at a place has expired. The day is tested first, since few tickets pass that test.
 fn row_expires(rows: &[u64; 3200], i: usize, game: u64, day: u64) -> bool
     requires { ⌜ i < 200 ⌝ }
     ensures { λ r. ⌜ ((m : Model) (marks : List ℕ) → m .game ≡ game → m .day ≡ day → r ≡ isExpired m (ticketIn (now (rows .entry)) marks i)) ⌝ }
 {
     let at = i * 16;
-    has_expired(game, day, rows[at + 9], rows[at + 10], rows[at + 13])
+    if !has_expired(day, rows[at + 13]) {
+        return false;
+    }
+    is_finished(game, rows[at + 9], rows[at + 10])
 }
 
 // The live tickets without those that have expired: the others move down.

@@ -71,7 +71,7 @@ loop-again c =
     let start = startOf (test .before) in
     let args = start .args in
     finding-more (args .rows .now) (args .marks .now) (args .game) (args .draw) (args .live) (turn .inv) (test .loop-test .taken) (start .pre .few)
-    (start .pre .each (turn .i) (test .loop-test .taken) .checked) (c .find-ticket .result) (c .find-ticket .ensures)
+    (start .pre .each (turn .i) (test .loop-test .taken) .playable) (c .find-ticket .result) (c .find-ticket .ensures)
 
 returns : tie.Need-returns Inv-loop μ-loop
 returns c =

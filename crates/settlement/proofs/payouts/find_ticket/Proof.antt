@@ -9,7 +9,7 @@ use Rattle.house.specs.View.{marksAt, ticketFrom}
 use Rattle.house.proofs.Bounded.{terms-sound}
 use Rattle.settlement.specs.Passing.{Sold, FoundAt}
 use Rattle.house.specs.declared.rows.Row.{Row}
-use Rattle.settlement.proofs.PassSteps.{row-narrow, row-grouping, ticket-rests, ticket-runs}
+use Rattle.settlement.proofs.PassSteps.{row-narrow, ticket-rests, ticket-runs}
 use Rattle.settlement.proofs.payouts.find_ticket.Statement.{statement}
 use Rattle.settlement.proofs.payouts.find_ticket.Tie as tie
 
@@ -41,17 +41,16 @@ known-marks-requires c κs = search needs
 ticket-groups-requires : tie.Need-ticket-groups-requires
 ticket-groups-requires c κs =
     let known = c .before in
-    let read = known .before .before .before in
-    let own = marksAt (read .before .args .marks .now) (read .before .args .i) in (
+    let read = known .before .before .before in (
       record { place = read .before .pre .0 .place; own = omega (arith, known .known-marks .ensures, read .before .pre .0 .place) },
-      row-grouping (read .read-row .result) own (row-sold read .checked),
+      row-sold read .playable .marks,
     )
 
 row-terms-requires : tie.Need-row-terms-requires
 row-terms-requires c κs =
     let read = c .before .before .before .before .before in
     let own = marksAt (read .before .args .marks .now) (read .before .args .i) in
-    row-narrow (read .read-row .result) own (row-sold read .checked)
+    row-narrow (read .read-row .result) own (row-sold read .playable)
 
 ticket-prizes-requires : tie.Need-ticket-prizes-requires
 ticket-prizes-requires c κs =
@@ -59,7 +58,7 @@ ticket-prizes-requires c κs =
     let groups = terms .before in
     let read = groups .before .before .before .before .before in
     let own = marksAt (read .before .args .marks .now) (read .before .args .i) in (
-      subst Sound (sym (terms .row-terms .ensures)) (terms-sound (ticketFrom (read .read-row .result) own .operands) (row-sold read .checked)),
+      subst Sound (sym (terms .row-terms .ensures)) (terms-sound (ticketFrom (read .read-row .result) own .operands) (row-sold read .playable)),
       groups .ticket-groups .ensures .groups,
       read .before .pre .1,
     )

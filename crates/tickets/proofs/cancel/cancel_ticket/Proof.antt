@@ -10,6 +10,7 @@ use lib.ListN.{take}
 use borrow.Author.Needs.{needs}
 use Rattle.sale.specs.Price.{chargeLimit}
 use Rattle.sale.specs.Checks.{firstMet}
+use Rattle.sale.proofs.WayLaws.{ways-few}
 use Rattle.house.specs.Tickets.{Ticket, paidStakes, withStop}
 use Rattle.house.specs.Model.{withRefunded}
 use Rattle.house.specs.Commands.{changed, stillLive, finishedOn, lookupRows, cancelStop, cancelledTicket, cancel, rowsOf, codeOf, refundOf, cancelled, act, reply}
@@ -19,9 +20,9 @@ use Rattle.tickets.specs.Steps.{cancelRows, replaced}
 use Rattle.house.specs.declared.state.House.{House}
 use Rattle.house.specs.declared.rows.Row.{Row}
 use Rattle.house.proofs.Ledger.{Kept, withLive}
-use Rattle.house.proofs.Refusals.{operands-accepted, cancel-accepted}
+use Rattle.house.proofs.Refusals.{cancel-accepted}
 use Rattle.house.proofs.SheetFigures.{paid-games-within}
-use Rattle.house.proofs.Bounded.{stake-within, ways-within, span-paid-within}
+use Rattle.house.proofs.Bounded.{span-paid-within}
 use Rattle.house.proofs.ReachedHouses.{reached-sure}
 use Rattle.house.proofs.ViewLaws.{carried-refused, carried-done, view-drawing, view-by}
 use Rattle.tickets.proofs.FoundTickets.{FoundTicket, first-met-above, found-few, found-rest, found-within, found-ticket, found-holds, found-changed}
@@ -51,15 +52,15 @@ Refundable row stop = (stop ≤ row .stop) × (row .free ≤ stop + 100) × (row
 
 refundable : (game stop : ℕ) (row : Row) (marks : List ℕ) → Kept game (ticketFrom row marks) → row .first ≤ stop → stop < row .stop → Refundable row stop
 refundable game stop row marks kept begun some =
-    let operands = ticketFrom row marks .operands in
+    let operands = kept .fixed .playable in
     omega (
       arith,
-      kept .freeFrom,
-      kept .counted,
+      kept .fixed .freeFrom,
+      kept .fixed .counted,
       paid-games-within (row .games),
-      operands-accepted operands (kept .checked) .fewGames,
-      ways-within operands (kept .checked),
-      stake-within operands (kept .checked),
+      operands .fewGames,
+      ways-few (row .types) (operands .groups),
+      operands .stake,
     )
 
 -- where Cancel cuts off the ticket at a place, and what it pays back
