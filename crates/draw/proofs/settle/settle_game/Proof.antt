@@ -8,7 +8,8 @@ use lib.ListN.{take}
 use borrow.Author.Needs.{needs}
 use Rattle.prizes.specs.declared.draw.Draw.{Draw}
 use Rattle.house.specs.Tickets.{Ticket}
-use Rattle.house.specs.Model.{Model, Counters}
+use Rattle.house.specs.Model.{Model}
+use Rattle.house.specs.declared.state.Counters.{Counters}
 use Rattle.house.specs.Commands.{ball, replies, settledBy, settlement, gameEnded}
 use Rattle.house.specs.View.{view}
 use Rattle.settlement.specs.Settling.{SettledAs}
