@@ -1,14 +1,14 @@
 -- Which command of the model a decoded one is. Sell's marks stand beside it.
 use Prim.Native.Nat.{ℕ}
 use mathlib.Core.List.{List}
+use Rattle.sale.specs.Checks.{operandsOf}
 use Rattle.house.specs.Commands.{open′, sell, cancel, ball, claim, expire, transfer}
 use Rattle.commands.specs.declared.command.Command.{Command}
 use Rattle.commands.specs.declared.command.Command.the-variants.{Open, Sell, Cancel, Ball, Claim, Expire, Transfer}
 
 abbrev pub meant : Command → List ℕ → Rattle.house.specs.Commands.Command
 meant (Open day) marks = open′ day
-meant (Sell s) marks =
-    sell (record { kind = s .kind; games = s .games; stake = s .stake; groups = s .groups; types = s .types; marks = marks })
+meant (Sell sale) marks = sell (operandsOf sale marks)
 meant (Cancel ticket) marks = cancel ticket
 meant (Ball number) marks = ball number
 meant (Claim ticket) marks = claim ticket

@@ -4,6 +4,7 @@ use crate::transfer::transfer_cents;
 use draw::ball::enter_ball;
 use house::answer::Outcome;
 use house::state::House;
+use sale::terms::Sale;
 use tickets::cancel::cancel_ticket;
 use tickets::claim::claim_ticket;
 use tickets::expire::expire_tickets;
@@ -12,15 +13,6 @@ ghost use Rattle.house.specs.Balance.{Reached};
 ghost use Rattle.house.specs.View.{view};
 ghost use Rattle.house.specs.Parts.{Carried};
 ghost use Rattle.commands.specs.Meant.{meant};
-
-// Sell's operands but for the marks, which the caller lends.
-pub struct Sale {
-    pub kind: u8,
-    pub games: u8,
-    pub stake: u32,
-    pub groups: u8,
-    pub types: u8,
-}
 
 // The seven commands with their operands, at their width in document 01's table.
 pub enum Command {
@@ -46,17 +38,7 @@ pub fn carry_out(
 {
     match command {
         Command::Open(day) => open_day(house, day),
-        Command::Sell(s) => sell_ticket(
-            house,
-            rows,
-            marks,
-            s.kind,
-            s.games,
-            s.stake,
-            s.groups,
-            s.types,
-            from,
-        ),
+        Command::Sell(sale) => sell_ticket(house, rows, marks, sale, from),
         Command::Cancel(ticket) => cancel_ticket(house, rows, marks, ticket),
         Command::Ball(number) => enter_ball(house, rows, marks, number),
         Command::Claim(ticket) => claim_ticket(house, rows, marks, ticket),

@@ -9,9 +9,8 @@ use lib.ListN.{getD, take, drop, set, length}
 use lib.Seq.{drop-cons, drop-drop, drop-at, take-at, take-nil, take-take, getD-take, getD-drop, sets-eq}
 use Rattle.house.specs.declared.answer.Answer.{Answer}
 use Rattle.roll.specs.Bytes.{numberFrom, numberOf, bytesOf}
-use Rattle.roll.specs.Decode.{recordOf}
+use Rattle.roll.specs.Decode.{saleIn, recordOf}
 use Rattle.roll.specs.Balance.{entryFrom}
-use Rattle.roll.specs.Orders.{saleIn}
 
 -- one digit more, to the base 256
 digit-split : (n p : ℕ) → n % (p * 256) ≡ n / p % 256 * p + n % p

@@ -9,13 +9,14 @@ use lib.Dec.{ltb, eqb}
 use lib.ListN.{length, getD, take, drop, length-drop}
 use lib.Seq.{drop-cons}
 use borrow.Author.Tests.{ltb-false, lt-ltb, le-ltb, ne-eqb}
+use Rattle.sale.specs.Checks.{operandsOf}
 use Rattle.house.specs.Commands.{open′, sell, cancel, ball, claim, expire, transfer}
 use Rattle.commands.specs.Meant.{meant}
 use Rattle.commands.specs.declared.command.Command.{Command}
 use Rattle.commands.specs.declared.command.Command.the-variants.{Open, Sell, Cancel, Ball, Claim, Expire, Transfer}
 use Rattle.roll.specs.Bytes.{numberOf}
-use Rattle.roll.specs.Decode.{isKnown, operandBytes, saleOf, commandOf}
-use Rattle.roll.specs.Orders.{saleIn, orderOf, decodedAt}
+use Rattle.roll.specs.Decode.{isKnown, operandBytes, saleIn, marksIn, commandOf}
+use Rattle.roll.specs.Orders.{orderOf, lentMarks, decodedAt}
 use Rattle.roll.specs.declared.decode.Decoded.the-variants.{Whole, Stop}
 
 -- ---- the last row of the table of commands
@@ -83,7 +84,7 @@ module _ (l : List ℕ) (at : ℕ) (within : at < length l) where
 -- ---- what is decoded
 
 -- a decoded command, with Sell's marks beside it, is the command that the bytes stand for
-pub order-meant : (byte : ℕ) (bytes : List ℕ) → meant (orderOf byte bytes) (drop 8 bytes) ≡ commandOf byte bytes
+pub order-meant : (byte : ℕ) (bytes : List ℕ) → meant (orderOf byte bytes) (lentMarks byte bytes) ≡ commandOf byte bytes
 unfolding orderOf commandOf
 order-meant byte bytes = go (eqb byte 1) (eqb byte 2) (eqb byte 3) (eqb byte 4) (eqb byte 5) (eqb byte 6)
   where
@@ -96,9 +97,9 @@ order-meant byte bytes = go (eqb byte 1) (eqb byte 2) (eqb byte 3) (eqb byte 4) 
         (cond draws (Ball (getD bytes 0 0))
         (cond claims (Claim (numberOf bytes))
         (cond expires Expire (Transfer (getD bytes 0 0) (numberOf (drop 1 bytes)))))))))
-        (drop 8 bytes)
+        (cond sells (marksIn bytes) [])
         ≡ cond opens (open′ (numberOf bytes))
-        (cond sells (sell (saleOf bytes))
+        (cond sells (sell (operandsOf (saleIn bytes) (marksIn bytes)))
         (cond cancels (cancel (numberOf bytes))
         (cond draws (ball (getD bytes 0 0))
         (cond claims (claim (numberOf bytes))

@@ -19,7 +19,7 @@ use Rattle.commands.specs.declared.command.Command.{Command}
 use Rattle.roll.specs.Bytes.{bytesOf}
 use Rattle.roll.specs.Decode.{isKnown, operandBytes, commandOf, recordOf}
 use Rattle.roll.specs.Reading.{Reading, stopped, answered, readTurns, readRoll, AllRefused}
-use Rattle.roll.specs.Orders.{orderOf, decodedAt, verdictOf}
+use Rattle.roll.specs.Orders.{orderOf, lentMarks, decodedAt, verdictOf}
 use Rattle.roll.specs.declared.decode.Decoded.the-variants.{Whole, Stop}
 use Rattle.roll.specs.declared.reader.Verdict.the-variants.{Accepted, Refused}
 use Rattle.roll.proofs.DecodeLaws.{order-meant, Stands}
@@ -68,23 +68,18 @@ module _ (turns : ℕ) (m : Model) (roll book : List ℕ) (order : Command) (siz
   turn-full full =
       rw (s .begins, s .known, le-ltb (length (s .rest)) (operandBytes (s .byte)) (s .enough), lt-ltb (length book) 14 full)
 
-  -- the bytes of the command, its byte first
-  command-bytes : take size roll ≡ s .byte ∷ take (operandBytes (s .byte)) (s .rest)
-  command-bytes = rw (s .begins, s .long, add-one (operandBytes (s .byte)))
-
   after-command : drop size roll ≡ drop (operandBytes (s .byte)) (s .rest)
   after-command = rw (s .begins, s .long, add-one (operandBytes (s .byte)))
 
-  -- the command answered, with Sell's marks beside it
+  -- the command answered, with what is lent with it
   pub turn-answers :
       (marks : List ℕ)
       → 14 ≤ length book
-      → marks ≡ drop 9 (take size roll)
+      → marks ≡ lentMarks (s .byte) (take (operandBytes (s .byte)) (s .rest))
       → readTurns (suc turns) m roll book ≡ answeredBy turns m book size (meant order marks) (getD roll 0 0) (drop size roll)
   turn-answers marks room same =
       let bytes = take (operandBytes (s .byte)) (s .rest) in
-      let beside : marks ≡ drop 8 bytes = same ∙ ap (drop 9) command-bytes in
-      let command = sym (ap₂ meant (s .is) beside ∙ order-meant (s .byte) bytes) in
+      let command = sym (ap₂ meant (s .is) same ∙ order-meant (s .byte) bytes) in
       let long : 1 + operandBytes (s .byte) ≡ size = omega (arith, s .long) in
       let byte = sym (ap (λ l. getD l 0 0) (s .begins)) in
       let later = sym after-command in
@@ -298,12 +293,23 @@ module _ (quiet : Type 0) (whole : Reading) (m : Model) (roll book : List ℕ) (
     pub command-within : read + size ≤ length roll
     command-within = omega (arith, s .long, s .enough, ap length (s .begins), length-drop read roll, a .within)
 
+    command-byte : s .byte ≡ getD roll read 0
+    command-byte = sym (ap (λ l. getD l 0 0) (s .begins)) ∙ first-byte roll read
+
+    pub operands-within : read + 1 + operandBytes (getD roll read 0) ≤ length roll
+    operands-within = omega (arith, command-within, s .long, ap operandBytes command-byte)
+
     -- one more answer, its record written after the others
-    module _ (marks : List ℕ) (room : done + 14 ≤ length book) (same : marks ≡ drop 9 (take size (drop read roll))) where
+    module _ (marks : List ℕ) (room : done + 14 ≤ length book) (same : marks ≡ lentMarks (getD roll read 0) (take (operandBytes (getD roll read 0)) (drop (read + 1) roll))) where
+      lent : marks ≡ lentMarks (s .byte) (take (operandBytes (s .byte)) (s .rest))
+      lent =
+          same
+          ∙ ap₂ (λ b l. lentMarks b (take (operandBytes b) l)) (sym command-byte) (sym (drop-drop 1 read roll) ∙ ap (drop 1) (s .begins))
+
       turn-here : (turns : ℕ) → readTurns (suc turns) m (drop read roll) (drop done book)
           ≡ answeredBy turns m (drop done book) size (meant order marks) (getD roll read 0) (drop size (drop read roll))
       turn-here turns =
-          turn-answers turns m (drop read roll) (drop done book) order size s marks (omega (arith, length-drop done book)) same
+          turn-answers turns m (drop read roll) (drop done book) order size s marks (omega (arith, length-drop done book)) lent
           ∙ ap (λ b. answeredBy turns m (drop done book) size (meant order marks) b (drop size (drop read roll))) (first-byte roll read)
 
       pub ahead-more :

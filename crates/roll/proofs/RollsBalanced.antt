@@ -9,13 +9,14 @@ use lib.Dec.{ltb, leb, eqb}
 use lib.ListN.{length, getD, take, drop}
 use lib.Seq.{getD-drop}
 use borrow.Author.Tests.{leb-true, eqb-true, eqb-false}
+use Rattle.sale.specs.Checks.{operandsOf}
 use Rattle.house.specs.Model.{Model, fresh}
 use Rattle.house.specs.Commands.{Command, sell, cancel, ball, claim, expire, transfer, step}
 use Rattle.house.specs.Balance.{State, next, runFrom, Reached}
 use Rattle.house.proofs.Refusals.{and-true}
 use Rattle.house.proofs.Theorem.{till-balances, reached-step}
 use Rattle.roll.specs.Bytes.{numberOf}
-use Rattle.roll.specs.Decode.{isKnown, operandBytes, saleOf, commandOf, byteOf, recordOf}
+use Rattle.roll.specs.Decode.{isKnown, operandBytes, saleIn, marksIn, commandOf, byteOf, recordOf}
 use Rattle.roll.specs.Reading.{Reading, stopped, readTurns, readRoll}
 use Rattle.roll.specs.Balance.{Sitting, houseAfter, answeredIn, entriesTo, entriesFrom, entriesIn, RollsBalance}
 use Rattle.roll.proofs.ByteLaws.{two-bytes-below, entry-back, record-passed}
@@ -108,7 +109,7 @@ byte-back byte bytes known =
 other-short :
     (bytes : List ℕ) (sells cancels draws claims expires : Bool)
     → ShortDay
-    (cond sells (sell (saleOf bytes))
+    (cond sells (sell (operandsOf (saleIn bytes) (marksIn bytes)))
     (cond cancels (cancel (numberOf bytes))
     (cond draws (ball (getD bytes 0 0))
     (cond claims (claim (numberOf bytes))

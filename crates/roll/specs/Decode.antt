@@ -6,7 +6,8 @@ use mathlib.Core.Bool.{Bool, cond, _&&_}
 use mathlib.Core.List.{List, _∷_, _++_}
 use lib.Dec.{leb, eqb}
 use lib.ListN.{getD, take, drop}
-use Rattle.sale.specs.Checks.{Operands}
+use Rattle.sale.specs.Checks.{operandsOf}
+use Rattle.sale.specs.declared.terms.Sale.{Sale}
 use Rattle.house.specs.Commands.{Command, open′, sell, cancel, ball, claim, expire, transfer}
 use Rattle.house.specs.declared.answer.Answer.{Answer}
 use Rattle.roll.specs.Bytes.{numberOf, bytesOf}
@@ -24,22 +25,26 @@ operandBytes byte =
     (cond (eqb byte 5) 4
     (cond (eqb byte 6) 0 5)))))
 
-abbrev pub saleOf : List ℕ → Operands
-saleOf bytes =
+-- Sell's operands up to the marks
+abbrev pub saleIn : List ℕ → Sale
+saleIn bytes =
     record {
       kind = getD bytes 0 0;
       games = getD bytes 1 0;
       stake = numberOf (take 4 (drop 2 bytes));
       groups = getD bytes 6 0;
       types = getD bytes 7 0;
-      marks = drop 8 bytes;
     }
+
+-- and the marks behind them
+abbrev pub marksIn : List ℕ → List ℕ
+marksIn bytes = take 80 (drop 8 bytes)
 
 -- a known command byte with its operand bytes
 unfoldable pub commandOf : ℕ → List ℕ → Command
 commandOf byte bytes =
     cond (eqb byte 1) (open′ (numberOf bytes))
-    (cond (eqb byte 2) (sell (saleOf bytes))
+    (cond (eqb byte 2) (sell (operandsOf (saleIn bytes) (marksIn bytes)))
     (cond (eqb byte 3) (cancel (numberOf bytes))
     (cond (eqb byte 4) (ball (getD bytes 0 0))
     (cond (eqb byte 5) (claim (numberOf bytes))

@@ -5,31 +5,19 @@ use mathlib.Core.Bool.{cond, not}
 use mathlib.Core.List.{List, [], _∷_}
 use lib.Dec.{ltb, eqb}
 use lib.ListN.{length, take, drop, getD}
-use Rattle.commands.specs.declared.command.Sale.{Sale}
 use Rattle.commands.specs.declared.command.Command.{Command}
 use Rattle.commands.specs.declared.command.Command.the-variants.{Open, Sell, Cancel, Ball, Claim, Expire, Transfer}
 use Rattle.house.specs.declared.answer.Answer.{Answer}
 use Rattle.house.specs.declared.state.House.{House}
 use Rattle.house.specs.View.{view}
 use Rattle.roll.specs.Bytes.{numberOf}
-use Rattle.roll.specs.Decode.{isKnown, operandBytes}
+use Rattle.roll.specs.Decode.{isKnown, operandBytes, saleIn, marksIn}
 use Rattle.roll.specs.Reading.{Reading, readRoll, AllRefused}
 use Rattle.roll.specs.declared.decode.Decoded.{Decoded}
 use Rattle.roll.specs.declared.decode.Decoded.the-variants.{Whole, Stop}
 use Rattle.roll.specs.declared.reader.Report.{Report}
 use Rattle.roll.specs.declared.reader.Verdict.{Verdict}
 use Rattle.roll.specs.declared.reader.Verdict.the-variants.{Accepted, Refused}
-
--- Sell's operands up to the marks
-abbrev pub saleIn : List ℕ → Sale
-saleIn bytes =
-    record {
-      kind = getD bytes 0 0;
-      games = getD bytes 1 0;
-      stake = numberOf (take 4 (drop 2 bytes));
-      groups = getD bytes 6 0;
-      types = getD bytes 7 0;
-    }
 
 -- a known command byte with its operand bytes, as the code has it; Sell's marks stand beside it
 unfoldable pub orderOf : ℕ → List ℕ → Command
@@ -40,6 +28,10 @@ orderOf byte bytes =
     (cond (eqb byte 4) (Ball (getD bytes 0 0))
     (cond (eqb byte 5) (Claim (numberOf bytes))
     (cond (eqb byte 6) Expire (Transfer (getD bytes 0 0) (numberOf (drop 1 bytes))))))))
+
+-- what is lent with a command: the marks of a Sell, and nothing with another command, which reads none
+abbrev pub lentMarks : ℕ → List ℕ → List ℕ
+lentMarks byte bytes = cond (eqb byte 2) (marksIn bytes) []
 
 -- what stands at the start of a part of a roll
 unfoldable pub decodedAt : List ℕ → Decoded

@@ -1,12 +1,12 @@
 // Decoding: the command that stands at a place of a roll.
 use commands::command::Command;
-use commands::command::Sale;
+use sale::terms::Sale;
 ghost use mathlib.Core.Path.{_≡_};
 ghost use Prim.Native.Nat.{_+_, _≤_};
 ghost use lib.ListN.{length, take, drop};
 ghost use Rattle.roll.specs.Bytes.{numberOf};
-ghost use Rattle.roll.specs.Decode.{isKnown, operandBytes};
-ghost use Rattle.roll.specs.Orders.{saleIn, orderOf, decodedAt};
+ghost use Rattle.roll.specs.Decode.{isKnown, operandBytes, saleIn};
+ghost use Rattle.roll.specs.Orders.{orderOf, decodedAt};
 
 // A whole command with its length, its command byte included; or the stop code where there is none. Sell's marks stay in the roll.
 pub enum Decoded {

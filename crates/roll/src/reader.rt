@@ -10,7 +10,8 @@ ghost use Prim.Native.Nat.{_+_, _≤_};
 ghost use lib.ListN.{length, take, drop};
 ghost use Rattle.house.specs.Balance.{Reached};
 ghost use Rattle.house.specs.View.{view};
-ghost use Rattle.roll.specs.Orders.{stopOf, verdictOf, Reported};
+ghost use Rattle.roll.specs.Decode.{operandBytes};
+ghost use Rattle.roll.specs.Orders.{lentMarks, stopOf, verdictOf, Reported};
 
 // The house after a roll, the stop code, the bytes of the answered commands, and how many answers were written.
 #[repr(C)]
@@ -46,16 +47,16 @@ fn stop_code(decoded: Decoded) -> u8
     }
 }
 
-// Of a command's bytes, those after the first nine: the marks of a Sell.
-fn marks_of(roll: &[u8], at: usize, size: usize) -> &[u8]
-    requires { ⌜ at + size ≤ length (now roll) ⌝ }
-    ensures { λ r. ⌜ now r ≡ drop 9 (take size (drop at (now (roll .entry)))) ⌝ }
+// What is lent with a command whose operands start at a place: the marks of a Sell, from the roll itself. No other command reads any.
+fn marks_of(byte: u8, roll: &[u8], at: usize) -> &[u8]
+    requires { ⌜ at + operandBytes byte ≤ length (now roll) ⌝ }
+    ensures { λ r. ⌜ now r ≡ lentMarks byte (take (operandBytes byte) (drop at (now (roll .entry)))) ⌝ }
 {
-    let end = at + size;
-    if size < 9 {
-        return &roll[end..end];
+    if byte != 2 {
+        return &roll[at..at];
     }
-    let start = at + 9;
+    let start = at + 8;
+    let end = at + 88;
     &roll[start..end]
 }
 
@@ -108,7 +109,7 @@ pub fn read_roll(
             };
         }
         let byte = roll[read];
-        let from = marks_of(roll, read, size);
+        let from = marks_of(byte, roll, read + 1);
         let outcome = carry_out(here, rows, marks, command, from);
         here = outcome.house;
         read += size;

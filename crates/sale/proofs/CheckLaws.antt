@@ -1,7 +1,7 @@
 -- Laws of the operand checks: tests over lists step by step, and the first refusal that is met.
 use mathlib.Core.Path.{_≡_, refl, sym, ap, _∙_}
-use mathlib.Core.Bool.{Bool, true, false, not, _&&_}
-use mathlib.Core.List.{List, _∷_}
+use mathlib.Core.Bool.{Bool, true, false, cond, not, _&&_, false≢true}
+use mathlib.Core.List.{List, [], _∷_, _++_}
 use Prim.Native.Nat.{ℕ, _+_, _*_, _/_, _≤_, _<_}
 use native.Mathlib.Nat.{div-eq-of-lt, le-div-iff-mul-le, one-mul}
 use native.Mathlib.Numerals.{add-one}
@@ -9,11 +9,10 @@ use native.Mathlib.Omega.{arith}
 use lib.Dec.{leb, eqb}
 use lib.ListN.{length, getD, take, drop, drop-of-length-le}
 use lib.Seq.{drop-cons}
-use borrow.Author.Tests.{eq-eqb, ne-eqb, leb-true, leb-false}
+use borrow.Author.Tests.{eq-eqb, ne-eqb, leb-true, leb-false, not-true}
 use Rattle.sale.specs.Lists.{every}
-use Rattle.sale.specs.Ways.{sizes, sizeWord}
-use Rattle.sale.specs.Checks.{Operands, firstMet, wayCount, chargeOf, jackpotOf, marksFit, operandCode, quoteOf}
-use Rattle.sale.specs.declared.check.Quote.{Quote}
+use Rattle.sale.specs.Ways.{sizes}
+use Rattle.sale.specs.Checks.{Operands, firstMet, marksFit, operandCode, acceptedQuote, refusedQuote, quoteOf}
 use Rattle.sale.proofs.KeepLaws.{and-right}
 
 module _ {A : Type 0} (f : A → Bool) where
@@ -41,6 +40,10 @@ small-quotient t n some = go (leb n t) refl
         let quotient : 1 ≤ t / n = le-div-iff-mul-le some .1 whole in
         ne-eqb (t / n) 0 (λ q. omega arith)
 
+and-left : (a b : Bool) → a && b ≡ true → a ≡ true
+and-left true b e = refl
+and-left false b e = absurd (false≢true e)
+
 pub within-le : (lo x hi : ℕ) → leb lo x && leb x hi ≡ true → x ≤ hi
 within-le lo x hi both = leb-true x hi (and-right (leb lo x) (leb x hi) both)
 
@@ -57,7 +60,9 @@ marks-by-groups g marks eighty same =
     ∙ ap (λ b. b && every (λ m. leb m g) marks && every (λ n. not (eqb n 0)) (take g (sizes marks)))
     (sym (eq-eqb (length marks) 80 eighty))
 
--- a row of the table of refusals that is not met, and one that is
+-- ---- the first row that is met
+
+-- a row that is not met, and one that is
 pub row-passed : (test : Bool) (code : ℕ) (rows : List (Bool × ℕ)) → test ≡ false → firstMet ((test, code) ∷ rows) ≡ firstMet rows
 unfolding firstMet
 row-passed test code rows e = rw e
@@ -66,12 +71,49 @@ pub row-met : (test : Bool) (code : ℕ) (rows : List (Bool × ℕ)) → test �
 unfolding firstMet
 row-met test code rows e = rw e
 
-pub refusal : (o : Operands) {code : ℕ} → operandCode o ≡ code → eqb code 0 ≡ false →
-    _≡_ {A = Quote} (record { code = code; ways = 0; charge = 0; jackpot = 0; sizes = 0 }) (quoteOf o)
-unfolding quoteOf
-refusal o met some = rw (met, some)
+-- where a row alone refuses nothing, it is not met
+pub row-clear : (test : Bool) (code : ℕ) → (code ≡ 0 → ⊥) → firstMet ((test, code) ∷ []) ≡ 0 → test ≡ false
+unfolding firstMet
+row-clear true code some e = absurd (some e)
+row-clear false code some e = refl
 
-pub acceptance : (o : Operands) → operandCode o ≡ 0 →
-    _≡_ {A = Quote} (record { code = 0; ways = wayCount o; charge = chargeOf o; jackpot = jackpotOf o; sizes = sizeWord (sizes (o .marks)) }) (quoteOf o)
+-- no row has the number 0
+abbrev pub nonzero : List (Bool × ℕ) → Bool
+nonzero rows = every (λ row. not (eqb (row .1) 0)) rows
+
+-- of two tables one below the other: the first one's refusal where it has one, and the second one's otherwise
+pub first-met-append :
+    (rows more : List (Bool × ℕ))
+    → nonzero rows ≡ true
+    → firstMet (rows ++ more) ≡ cond (eqb (firstMet rows) 0) (firstMet more) (firstMet rows)
+unfolding firstMet every
+first-met-append [] more n = refl
+first-met-append (row ∷ rows) more n =
+    go (row .0) (and-left (not (eqb (row .1) 0)) _ n) (first-met-append rows more (and-right (not (eqb (row .1) 0)) _ n))
+  where
+    go :
+        (met : Bool)
+        → not (eqb (row .1) 0) ≡ true
+        → firstMet (rows ++ more) ≡ cond (eqb (firstMet rows) 0) (firstMet more) (firstMet rows)
+        → cond met (row .1) (firstMet (rows ++ more))
+        ≡ cond (eqb (cond met (row .1) (firstMet rows)) 0) (firstMet more) (cond met (row .1) (firstMet rows))
+    go true some later = rw (not-true (eqb (row .1) 0) some)
+    go false some later = later
+
+-- the same where the first one's code is known
+module _ (rows more : List (Bool × ℕ)) (n : nonzero rows ≡ true) {code : ℕ} (first : code ≡ firstMet rows) where
+  pub stage-refused : (code ≡ 0 → ⊥) → firstMet (rows ++ more) ≡ code
+  stage-refused some = first-met-append rows more n ∙ rw (← first, ne-eqb code 0 some)
+
+  pub stage-passed : code ≡ 0 → firstMet (rows ++ more) ≡ firstMet more
+  stage-passed none = first-met-append rows more n ∙ rw (← first, none)
+
+-- ---- the quote
+
+pub refusal : (o : Operands) {code : ℕ} → operandCode o ≡ code → (code ≡ 0 → ⊥) → refusedQuote code ≡ quoteOf o
+unfolding quoteOf
+refusal o {code} met some = rw (met, ne-eqb code 0 some)
+
+pub acceptance : (o : Operands) → operandCode o ≡ 0 → acceptedQuote o ≡ quoteOf o
 unfolding quoteOf
 acceptance o met = rw met

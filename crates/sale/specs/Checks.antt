@@ -3,13 +3,14 @@
 -- way; 14 stake; 15 charge".
 use Prim.Native.Nat.{ℕ, _^_}
 use mathlib.Core.Bool.{Bool, cond, not, _&&_, _||_}
-use mathlib.Core.List.{List, [], _∷_}
+use mathlib.Core.List.{List, [], _∷_, _++_}
 use lib.Dec.{ltb, leb, eqb}
 use lib.ListN.{length, take}
 use Rattle.sale.specs.Lists.{every}
 use Rattle.sale.specs.Kinds.{kindOf, isSpecialOne, sizesFit, jackpotBy}
 use Rattle.sale.specs.Ways.{sizes, sizeWord, ways, waySizes}
 use Rattle.sale.specs.Price.{chargeLimit, paidGames, stakeFits, charge}
+use Rattle.sale.specs.declared.terms.Sale.{Sale}
 use Rattle.sale.specs.declared.check.Quote.{Quote}
 
 -- the operands of Sell, as the caller gives them
@@ -20,6 +21,11 @@ pub record Operands : Type 0 where
   pub groups : ℕ
   pub types : ℕ
   pub marks : List ℕ
+
+-- a sale with the marks that stand beside it
+abbrev pub operandsOf : Sale → List ℕ → Operands
+operandsOf s marks =
+    record { kind = s .kind; games = s .games; stake = s .stake; groups = s .groups; types = s .types; marks = marks }
 
 -- the number of the first row that is met, and 0 where none is
 unfoldable pub firstMet : List (Bool × ℕ) → ℕ
@@ -36,18 +42,32 @@ unfoldable pub marksFit : ℕ → List ℕ → Bool
 marksFit g marks =
     eqb (length marks) 80 && every (λ m. leb m g) marks && every (λ n. not (eqb n 0)) (take g (sizes marks))
 
-unfoldable pub operandRows : Operands → List (Bool × ℕ)
-operandRows o =
+-- the kind, the games, the groups and the marks
+abbrev pub markRows : Operands → List (Bool × ℕ)
+markRows o =
     (not (leb (o .kind) 3), 7)
     ∷ (not (leb 1 (o .games) && leb (o .games) 100), 8)
     ∷ (not (leb 1 (o .groups) && leb (o .groups) 8), 9)
     ∷ (not (marksFit (o .groups) (o .marks)), 10)
-    ∷ (eqb (o .types) 0 || leb (2 ^ o .groups) (o .types), 11)
+    ∷ []
+
+-- the ways
+abbrev pub wayRows : Operands → List (Bool × ℕ)
+wayRows o =
+    (eqb (o .types) 0 || leb (2 ^ o .groups) (o .types), 11)
     ∷ (not (sizesFit (kindOf (o .kind)) (waySizes (o .groups) (o .types) (sizes (o .marks)))), 12)
     ∷ (isSpecialOne (kindOf (o .kind)) && eqb (wayCount o) 1, 13)
-    ∷ (not (stakeFits (kindOf (o .kind)) (wayCount o) (o .stake)), 14)
-    ∷ (ltb chargeLimit (chargeOf o), 15)
     ∷ []
+
+-- the price
+abbrev pub stakeRow : Operands → Bool × ℕ
+stakeRow o = (not (stakeFits (kindOf (o .kind)) (wayCount o) (o .stake)), 14)
+
+abbrev pub chargeRow : Operands → Bool × ℕ
+chargeRow o = (ltb chargeLimit (chargeOf o), 15)
+
+unfoldable pub operandRows : Operands → List (Bool × ℕ)
+operandRows o = markRows o ++ (wayRows o ++ (stakeRow o ∷ chargeRow o ∷ []))
 
 -- 0, or the refusal of a sale by its operands alone
 unfoldable pub operandCode : Operands → ℕ
@@ -61,8 +81,19 @@ jackpotOf o =
     (sizes (o .marks))
 
 -- what a sale is told: the charge, and what the ticket keeps of its operands; or the refusal
+abbrev pub acceptedQuote : Operands → Quote
+acceptedQuote o =
+    record {
+      code = 0;
+      ways = wayCount o;
+      paid = paidGames (o .games);
+      charge = chargeOf o;
+      jackpot = jackpotOf o;
+      sizes = sizeWord (sizes (o .marks));
+    }
+
+abbrev pub refusedQuote : ℕ → Quote
+refusedQuote code = record { code = code; ways = 0; paid = 0; charge = 0; jackpot = 0; sizes = 0 }
+
 unfoldable pub quoteOf : Operands → Quote
-quoteOf o =
-    cond (eqb (operandCode o) 0)
-    (record { code = 0; ways = wayCount o; charge = chargeOf o; jackpot = jackpotOf o; sizes = sizeWord (sizes (o .marks)) })
-    (record { code = operandCode o; ways = 0; charge = 0; jackpot = 0; sizes = 0 })
+quoteOf o = cond (eqb (operandCode o) 0) (acceptedQuote o) (refusedQuote (operandCode o))

@@ -1,17 +1,20 @@
--- The walk over a ticket's ways as the code takes it, and what a sale sees in it. Only contracts speak of these; the laws in proofs/WalkLaws and
--- proofs/SurveyLaws join them to the ways themselves.
+-- The walk over a ticket's ways as the code takes it, what a sale sees in it, and what the stages of a sale's checks tell. Only contracts speak of
+-- these; the laws in proofs/WalkLaws and proofs/SurveyLaws join the walk to the ways themselves.
 use Prim.Native.Nat.{ℕ, zero, suc, _+_, _*_, _/_, _%_, _^_, _<_, min, max}
 use mathlib.Core.Path.{_≡_}
 use mathlib.Core.Bool.{Bool, cond, not, _&&_}
 use mathlib.Core.List.{List, [], _∷_, _++_, map}
 use lib.Dec.{leb, eqb}
-use lib.ListN.{length, getD, drop}
+use lib.ListN.{length, getD}
 use lib.Count.{ones}
 use Rattle.sale.specs.Kinds.{kindOf}
-use Rattle.sale.specs.Ways.{sizes, sizeWord, nominated, maskSum, waySizes}
-use Rattle.sale.specs.Checks.{Operands, firstMet, operandRows, operandCode}
+use Rattle.sale.specs.Ways.{sizes, nominated, maskSum, waySizes}
+use Rattle.sale.specs.Checks.{Operands, firstMet, markRows, wayRows}
+use Rattle.sale.specs.Bounds.{Grouped, Bytes}
 use Rattle.sale.specs.declared.terms.Kind.{Kind}
 use Rattle.sale.specs.declared.survey.Survey.{Survey}
+use Rattle.sale.specs.declared.check.MarksCheck.{MarksCheck}
+use Rattle.sale.specs.declared.check.WaysCheck.{WaysCheck}
 
 -- The ways that begin with the groups in a mask, where so many groups are left to take or to leave. Leaving comes first, so that the masks
 -- rise.
@@ -54,11 +57,25 @@ surveyIn table = record { count = getD table 0 0; least = getD table 1 0; most =
 pub record Unfilled (sizes table : List ℕ) : Type 0 where
   pub room : getD table 0 0 + length sizes < 2 ^ 32
 
--- what is known of a sale where its ways are looked at: the checks before are passed
-pub record LookedAt (o : Operands) (k : Kind) (g s : ℕ) (seen : Survey) (w : ℕ) : Type 0 where
+-- ---- a sale's checks, stage by stage
+
+-- what later stages have of marks that pass: the sizes of the groups, each in its byte
+pub record MarksPassed (o : Operands) (counts : List ℕ) : Type 0 where
+  pub same : counts ≡ sizes (o .marks)
+  pub groups : Grouped (o .groups)
+  pub bytes : Bytes counts
+
+-- 0 or the first refusal of the marks' rows
+pub record MarksChecked (o : Operands) (r : MarksCheck) : Type 0 where
+  pub code : r .code ≡ firstMet (markRows o)
+  pub passed : r .code ≡ 0 → MarksPassed o (r .sizes)
+
+-- the look at the operands' ways, with their kind
+pub record LookedAt (o : Operands) (k : Kind) (seen : Survey) : Type 0 where
   pub kind : k ≡ kindOf (o .kind)
-  pub games : g ≡ o .games
-  pub stake : s ≡ o .stake
   pub survey : seen ≡ surveyOf (waySizes (o .groups) (o .types) (sizes (o .marks)))
-  pub word : w ≡ sizeWord (sizes (o .marks))
-  pub passed : operandCode o ≡ firstMet (drop 5 (operandRows o))
+
+-- 0 or the first refusal of the ways' rows, for operands of the kind
+pub record WaysChecked (o : Operands) (k : Kind) (r : WaysCheck) : Type 0 where
+  pub code : r .code ≡ firstMet (wayRows o)
+  pub passed : r .code ≡ 0 → LookedAt o k (r .survey)

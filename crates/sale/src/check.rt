@@ -7,34 +7,50 @@ use crate::price::stake_fits;
 use crate::survey::Survey;
 use crate::survey::survey_ways;
 use crate::terms::Kind;
+use crate::terms::Sale;
 ghost use mathlib.Core.Path.{_≡_};
 ghost use mathlib.Core.Bool.{not, _&&_, _||_};
-ghost use Prim.Native.Nat.{_^_};
+ghost use mathlib.Core.List.{List, [], _∷_};
+ghost use Prim.Native.Nat.{ℕ, _^_};
 ghost use lib.Dec.{leb, eqb};
 ghost use lib.ListN.{take};
 ghost use Rattle.sale.specs.Lists.{every};
-ghost use Rattle.sale.specs.Kinds.{isSpecialOne};
-ghost use Rattle.sale.specs.Checks.{Operands, quoteOf};
-ghost use Rattle.sale.specs.Bounds.{Grouped, Counted};
-ghost use Rattle.sale.specs.Passes.{LookedAt};
+ghost use Rattle.sale.specs.Kinds.{kindOf, isSpecialOne};
+ghost use Rattle.sale.specs.Checks.{Operands, operandsOf, firstMet, wayCount, chargeOf, stakeRow, chargeRow, refusedQuote, quoteOf};
+ghost use Rattle.sale.specs.Bounds.{Grouped, Bytes};
+ghost use Rattle.sale.specs.Passes.{MarksPassed, MarksChecked, WaysChecked};
 
-// A sale's operands, checked: 0 with the number of ways, the charge, the jackpot that they play for and the sizes of the groups in one word, or
-// the refusal's number.
+// A sale's operands, checked: 0 with the number of ways, the paid games, the charge, the jackpot that they play for and the sizes of the groups
+// in one word, or the refusal's number.
 pub struct Quote {
     pub code: u8,
     pub ways: u32,
+    pub paid: u8,
     pub charge: u32,
     pub jackpot: u8,
     pub sizes: u64,
 }
 
+// The check of the marks: 0 with the sizes of the groups, or the refusal's number.
+struct MarksCheck {
+    code: u8,
+    sizes: [u8; 8],
+}
+
+// The check of the ways: 0 with what was seen of them, or the refusal's number.
+struct WaysCheck {
+    code: u8,
+    survey: Survey,
+}
+
 // A refusal, which has no figures.
 fn refused(code: u8) -> Quote
-    ensures { λ r. ⌜ r ≡ record { code = code; ways = 0; charge = 0; jackpot = 0; sizes = 0 } ⌝ }
+    ensures { λ r. ⌜ r ≡ refusedQuote code ⌝ }
 {
     Quote {
         code,
         ways: 0,
+        paid: 0,
         charge: 0,
         jackpot: 0,
         sizes: 0,
@@ -112,57 +128,108 @@ fn lone_special(kind: Kind, count: u32) -> bool
     false
 }
 
-// The checks from 12 on, which look at the ways.
-fn quote_ways(kind: Kind, games: u8, stake: u32, survey: Survey, word: u64) -> Quote
-    requires { ⌜ Counted (survey .count) ⌝ }
-    ensures { λ r. ⌜ ((o : Operands) → LookedAt o kind games stake survey word → r ≡ quoteOf o) ⌝ }
+// 7 to 10: the kind, the games, the groups and the marks.
+fn check_marks(sale: Sale, marks: &[u8]) -> MarksCheck
+    ensures { λ r. ⌜ MarksChecked (operandsOf sale (now (marks .entry))) r ⌝ }
 {
+    let sizes = [0u8; 8];
+    if 3 < sale.kind {
+        return MarksCheck { code: 7, sizes };
+    }
+    if !between(sale.games, 1, 100) {
+        return MarksCheck { code: 8, sizes };
+    }
+    let groups = sale.groups;
+    if !between(groups, 1, 8) {
+        return MarksCheck { code: 9, sizes };
+    }
+    if marks.len() != 80 {
+        return MarksCheck { code: 10, sizes };
+    }
+    let sizes = group_sizes(marks);
+    if !groups_fit(groups, marks, sizes) {
+        return MarksCheck { code: 10, sizes };
+    }
+    MarksCheck { code: 0, sizes }
+}
+
+// 11 to 13: the ways, from the sizes of the groups.
+fn check_ways(sale: Sale, kind: Kind, sizes: [u8; 8]) -> WaysCheck
+    requires { ⌜ Grouped (sale .groups) × Bytes sizes ⌝ }
+    ensures { λ r. ⌜ ((marks : List ℕ) → MarksPassed (operandsOf sale marks) sizes → kind ≡ kindOf (sale .kind) → WaysChecked (operandsOf sale marks) kind r) ⌝ }
+{
+    let groups = sale.groups;
+    let types = sale.types;
+    if !types_fit(groups, types) {
+        let survey = Survey {
+            count: 0,
+            least: 255,
+            most: 0,
+        };
+        return WaysCheck { code: 11, survey };
+    }
+    let survey = survey_ways(groups, types, &sizes);
     if !survey.suits(kind) {
-        return refused(12);
+        return WaysCheck { code: 12, survey };
     }
+    if lone_special(kind, survey.count) {
+        return WaysCheck { code: 13, survey };
+    }
+    WaysCheck { code: 0, survey }
+}
+
+// 14: the stake.
+fn stake_code(kind: Kind, count: u32, stake: u32) -> u8
+    ensures { λ r. ⌜ ((o : Operands) → kind ≡ kindOf (o .kind) → count ≡ wayCount o → stake ≡ o .stake → r ≡ firstMet (stakeRow o ∷ [])) ⌝ }
+{
+    if stake_fits(kind, count, stake) {
+        0
+    } else {
+        14
+    }
+}
+
+// 15: the charge.
+fn charge_code(charge: u64) -> u8
+    ensures { λ r. ⌜ ((o : Operands) → charge ≡ chargeOf o → r ≡ firstMet (chargeRow o ∷ [])) ⌝ }
+{
+    if 999_900 < charge { 15 } else { 0 }
+}
+
+// The checks in the order of their numbers: the first that is not passed refuses the sale.
+pub fn quote_for(sale: Sale, marks: &[u8]) -> Quote
+    ensures { λ r. ⌜ r ≡ quoteOf (operandsOf sale (now (marks .entry))) ⌝ }
+{
+    let marked = check_marks(sale, marks);
+    let code = marked.code;
+    if code != 0 {
+        return refused(code);
+    }
+    let kind = Kind::of(sale.kind);
+    let sizes = marked.sizes;
+    let looked = check_ways(sale, kind, sizes);
+    let code = looked.code;
+    if code != 0 {
+        return refused(code);
+    }
+    let survey = looked.survey;
     let count = survey.count;
-    if lone_special(kind, count) {
-        return refused(13);
+    let code = stake_code(kind, count, sale.stake);
+    if code != 0 {
+        return refused(code);
     }
-    if !stake_fits(kind, count, stake) {
-        return refused(14);
-    }
-    let charge = charge_of(stake, count, paid_games(games));
-    if 999_900 < charge {
-        return refused(15);
+    let paid = paid_games(sale.games);
+    let charge = charge_of(sale.stake, count, paid);
+    let code = charge_code(charge);
+    if code != 0 {
+        return refused(code);
     }
     Quote {
         code: 0,
         ways: count,
+        paid,
         charge: charge as u32,
         jackpot: survey.jackpot(kind),
-        sizes: word,
+        sizes: size_word(sizes),
     }
-}
-
-// The checks in the order of their numbers: the first that is not passed refuses the sale.
-pub fn quote_for(kind: u8, games: u8, stake: u32, groups: u8, types: u8, marks: &[u8]) -> Quote
-    ensures { λ r. ⌜ r ≡ quoteOf (record { kind = kind; games = games; stake = stake; groups = groups; types = types; marks = now (marks .entry) }) ⌝ }
-{
-    if 3 < kind {
-        return refused(7);
-    }
-    if !between(games, 1, 100) {
-        return refused(8);
-    }
-    if !between(groups, 1, 8) {
-        return refused(9);
-    }
-    if marks.len() != 80 {
-        return refused(10);
-    }
-    let sizes = group_sizes(marks);
-    if !groups_fit(groups, marks, sizes) {
-        return refused(10);
-    }
-    if !types_fit(groups, types) {
-        return refused(11);
-    }
-    let survey = survey_ways(groups, types, &sizes);
-    quote_ways(Kind::of(kind), games, stake, survey, size_word(sizes))
 }

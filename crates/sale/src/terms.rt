@@ -1,4 +1,4 @@
-// Kinds, schedules and the terms of a ticket.
+// Kinds, schedules, the operands of a sale and the terms of a ticket.
 ghost use mathlib.Core.Path.{_≡_};
 ghost use Rattle.sale.specs.Kinds.{kindOf, kindNumber, isJackpot, isSpecialOne};
 
@@ -13,6 +13,15 @@ pub enum Kind {
     Standard,
     Jackpot,
     Special(Schedule),
+}
+
+// Sell's operands as the caller gives them, but for the marks, which stand beside them.
+pub struct Sale {
+    pub kind: u8,
+    pub games: u8,
+    pub stake: u32,
+    pub groups: u8,
+    pub types: u8,
 }
 
 // What a ticket plays for. Its 80 marks stand beside it.

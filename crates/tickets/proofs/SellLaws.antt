@@ -7,47 +7,21 @@ use mathlib.Core.List.{List, [], _∷_, _++_}
 use lib.Dec.{eqb}
 use lib.ListN.{length, take}
 use borrow.Author.Tests.{eqb-true, eq-eqb, ne-eqb, le-leb, lt-leb, lt-ltb, le-ltb}
+use Rattle.sale.specs.Lists.{every}
 use Rattle.sale.specs.Ways.{sizes, sizeWord}
 use Rattle.sale.specs.Price.{paidGames}
-use Rattle.sale.specs.Checks.{Operands, firstMet, operandRows, operandCode, wayCount, chargeOf, jackpotOf, quoteOf}
+use Rattle.sale.specs.Checks.{Operands, firstMet, operandRows, operandCode, wayCount, chargeOf, acceptedQuote, refusedQuote, quoteOf}
 use Rattle.sale.specs.Kinds.{jackpotBy}
-use Rattle.sale.specs.declared.check.Quote.{Quote}
+use Rattle.sale.proofs.CheckLaws.{stage-refused, stage-passed}
 use Rattle.house.specs.Tickets.{Ticket, termsOf}
 use Rattle.house.specs.Model.{Model, gameLimit, liveLimit, ticketLimit, isDrawing, nextGame, withTaken}
 use Rattle.house.specs.Commands.{sell, rowsOf, codeOf, soldTicket, sold}
 use Rattle.house.specs.View.{ticketsOf, view}
 use Rattle.house.specs.declared.state.House.{House}
-use Rattle.house.proofs.Ledger.{All, withLive}
+use Rattle.house.proofs.Ledger.{withLive}
 use Rattle.house.proofs.ListLaws.{cond-either}
-use Rattle.house.proofs.Refusals.{row-passed, operand-numbers, saleRows}
+use Rattle.house.proofs.Refusals.{saleRows}
 use Rattle.house.proofs.ViewLaws.{view-live, view-by}
-
--- ---- two tables, one below the other
-
-append-met-by :
-    (b : Bool) (code rest all : ℕ)
-    → ((rest ≡ 0 → ⊥) → all ≡ rest)
-    → (cond b code rest ≡ 0 → ⊥)
-    → cond b code all ≡ cond b code rest
-append-met-by true code rest all later met = refl
-append-met-by false code rest all later met = later met
-
-append-met : (rows more : List (Bool × ℕ)) → (firstMet rows ≡ 0 → ⊥) → firstMet (rows ++ more) ≡ firstMet rows
-unfolding firstMet
-append-met [] more met = absurd (met refl)
-append-met (row ∷ rows) more met =
-    append-met-by (row .0) (row .1) (firstMet rows) (firstMet (rows ++ more)) (append-met rows more) met
-
-append-clear :
-    (rows more : List (Bool × ℕ))
-    → All (λ row. row .1 ≡ 0 → ⊥) rows
-    → firstMet rows ≡ 0
-    → firstMet (rows ++ more) ≡ firstMet more
-unfolding firstMet
-append-clear [] more numbers e = refl
-append-clear (row ∷ rows) more numbers e =
-    let p = row-passed (row .0) (row .1) (firstMet rows) (numbers .0) e in
-    rw (p .0) (append-clear rows more (numbers .1) (p .1))
 
 -- ---- the code of a sale
 
@@ -58,13 +32,13 @@ module _ (m : Model) (o : Operands) where
 
   module _ (opened : m .day ≡ 0 → ⊥) where
     pub sale-unfit : (operandCode o ≡ 0 → ⊥) → codeOf m (sell o) ≡ operandCode o
-    unfolding codeOf rowsOf firstMet operandCode
-    sale-unfit unfit = rw (ne-eqb (m .day) 0 opened) (append-met (operandRows o) (saleRows m o) unfit)
+    unfolding codeOf rowsOf firstMet operandCode operandRows every
+    sale-unfit unfit = rw (ne-eqb (m .day) 0 opened) (stage-refused (operandRows o) (saleRows m o) refl refl unfit)
 
     module _ (fits : operandCode o ≡ 0) where
       sale-room : codeOf m (sell o) ≡ firstMet (saleRows m o)
-      unfolding codeOf rowsOf firstMet operandCode
-      sale-room = rw (ne-eqb (m .day) 0 opened) (append-clear (operandRows o) (saleRows m o) (operand-numbers o) fits)
+      unfolding codeOf rowsOf firstMet operandCode operandRows every
+      sale-room = rw (ne-eqb (m .day) 0 opened) (stage-passed (operandRows o) (saleRows m o) refl refl fits)
 
       pub sale-full : liveLimit ≤ length (m .live) → codeOf m (sell o) ≡ 16
       unfolding firstMet
@@ -91,30 +65,13 @@ module _ (m : Model) (o : Operands) where
 
 -- ---- the quote
 
-module _ (o : Operands) where
-  -- of operands that pass their checks
-  abbrev pub told : Quote
-  told =
-      record {
-        code = 0;
-        ways = wayCount o;
-        charge = chargeOf o;
-        jackpot = jackpotOf o;
-        sizes = sizeWord (sizes (o .marks));
-      }
-
-  pub quoted-code : quoteOf o .code ≡ operandCode o
-  unfolding quoteOf
-  quoted-code = go (eqb (operandCode o) 0) refl
-    where
-      go : (b : Bool) → eqb (operandCode o) 0 ≡ b
-          → cond {A = Quote} b told (record { code = operandCode o; ways = 0; charge = 0; jackpot = 0; sizes = 0 }) .code ≡ operandCode o
-      go true e = sym (eqb-true (operandCode o) 0 e)
-      go false e = refl
-
-  pub quoted : operandCode o ≡ 0 → quoteOf o ≡ told
-  unfolding quoteOf
-  quoted e = rw (eq-eqb (operandCode o) 0 e)
+pub quoted-code : (o : Operands) → quoteOf o .code ≡ operandCode o
+unfolding quoteOf
+quoted-code o = go (eqb (operandCode o) 0) refl
+  where
+    go : (b : Bool) → eqb (operandCode o) 0 ≡ b → cond b (acceptedQuote o) (refusedQuote (operandCode o)) .code ≡ operandCode o
+    go true e = sym (eqb-true (operandCode o) 0 e)
+    go false e = refl
 
 -- ---- the first game
 

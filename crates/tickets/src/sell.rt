@@ -7,11 +7,11 @@ use house::rows::append_ticket;
 use house::state::House;
 use sale::check::Quote;
 use sale::check::quote_for;
-use sale::price::paid_games;
+use sale::terms::Sale;
 ghost use mathlib.Core.Path.{_≡_};
 ghost use mathlib.Core.List.{List};
 ghost use Prim.Native.Nat.{ℕ, _≤_};
-ghost use Rattle.sale.specs.Checks.{Operands, operandCode};
+ghost use Rattle.sale.specs.Checks.{Operands, operandsOf, operandCode};
 ghost use Rattle.house.specs.Model.{ticketLimit};
 ghost use Rattle.house.specs.Commands.{sell, codeOf, soldTicket};
 ghost use Rattle.house.specs.Balance.{Reached};
@@ -42,33 +42,24 @@ fn sale_code(house: House, games: u8, quoted: u8) -> u8
 }
 
 // The row of a new ticket, from the quote of its operands.
-fn sold_row(
-    house: House,
-    quote: Quote,
-    kind: u8,
-    games: u8,
-    stake: u32,
-    groups: u8,
-    types: u8,
-) -> Row
+fn sold_row(house: House, sale: Sale, quote: Quote) -> Row
     requires { ⌜ InGames house × (house .issued ≤ ticketLimit) ⌝ }
-    ensures { λ r. ⌜ ((words marks from : List ℕ) → Quoted quote (record { kind = kind; games = games; stake = stake; groups = groups; types = types; marks = from }) → ticketFrom r from ≡ soldTicket (view house words marks) (record { kind = kind; games = games; stake = stake; groups = groups; types = types; marks = from })) ⌝ }
+    ensures { λ r. ⌜ ((words marks from : List ℕ) → Quoted quote (operandsOf sale from) → ticketFrom r from ≡ soldTicket (view house words marks) (operandsOf sale from)) ⌝ }
 {
     let first = house.first_game();
-    let paid = paid_games(games);
     Row {
         number: house.issued + 1,
-        kind: kind as u64,
-        games: games as u64,
-        stake: stake as u64,
-        groups: groups as u64,
-        types: types as u64,
+        kind: sale.kind as u64,
+        games: sale.games as u64,
+        stake: sale.stake as u64,
+        groups: sale.groups as u64,
+        types: sale.types as u64,
         ways: quote.ways as u64,
         jackpot: quote.jackpot as u64,
         sold: house.day,
         first,
-        stop: first + games as u64,
-        free: first + paid as u64,
+        stop: first + sale.games as u64,
+        free: first + quote.paid as u64,
         due: 0,
         finished: 0,
         sizes: quote.sizes,
@@ -80,26 +71,22 @@ pub fn sell_ticket(
     mut house: House,
     rows: &mut [u64; 3200],
     marks: &mut [u8; 16000],
-    kind: u8,
-    games: u8,
-    stake: u32,
-    groups: u8,
-    types: u8,
+    sale: Sale,
     from: &[u8],
 ) -> Outcome
     requires { ⌜ Reached (view house (now rows) (now marks)) ⌝ }
-    ensures { λ r. ⌜ Carried house (now (rows .entry)) (now (marks .entry)) (sell (record { kind = kind; games = games; stake = stake; groups = groups; types = types; marks = now (from .entry) })) (r .house) (now (rows .exit)) (now (marks .exit)) (r .answer) ⌝ }
+    ensures { λ r. ⌜ Carried house (now (rows .entry)) (now (marks .entry)) (sell (operandsOf sale (now (from .entry)))) (r .house) (now (rows .exit)) (now (marks .exit)) (r .answer) ⌝ }
 {
     let day = house.day;
     if day == 0 {
         return refused(house, 4);
     }
-    let quote = quote_for(kind, games, stake, groups, types, from);
-    let code = sale_code(house, games, quote.code);
+    let quote = quote_for(sale, from);
+    let code = sale_code(house, sale.games, quote.code);
     if code != 0 {
         return refused(house, code);
     }
-    let row = sold_row(house, quote, kind, games, stake, groups, types);
+    let row = sold_row(house, sale, quote);
     let live = house.live;
     append_ticket(rows, marks, live as usize, row, from);
     let number = house.issued + 1;

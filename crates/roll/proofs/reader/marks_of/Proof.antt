@@ -1,16 +1,16 @@
--- `roll::reader::marks_of` meets its contract: past the first nine of the command's bytes, or none where it has fewer.
+-- `roll::reader::marks_of` meets its contract: of a Sell the 80 bytes behind the first eight of its operands, of another command no byte.
 use Prim.Native.Nat.{_+_, _-_}
 use native.Mathlib.Omega.{arith}
 use mathlib.Core.Path.{_≡_, sym, ap, ap₂, _∙_}
 use lib.ListN.{take, drop}
 use lib.Seq.{drop-drop}
 use borrow.Author.Needs.{needs}
-use Rattle.roll.proofs.ByteLaws.{past-first}
+use borrow.Author.Tests.{ne-eqb}
+use Rattle.roll.specs.Decode.{operandBytes}
+use Rattle.roll.specs.Orders.{lentMarks}
+use Rattle.roll.proofs.ByteLaws.{part-of-first}
 use Rattle.roll.proofs.reader.marks_of.Statement.{statement}
 use Rattle.roll.proofs.reader.marks_of.Tie as tie
-
-add-end : tie.Need-add-end
-add-end c = search needs
 
 sub-result : tie.Need-sub-result
 sub-result c = search needs
@@ -24,13 +24,16 @@ part-result-end c = search needs
 returns : tie.Need-returns
 returns c =
     let args = c .before .before .args in
-    let none : args .at + args .size - (args .at + args .size) ≡ 0 = omega arith in
-    let short : args .size - 9 ≡ 0 = omega (arith, c .before .if1 .taken) in
-    ap (λ n. take n (drop (args .at + args .size) (args .roll .now))) none
-    ∙ sym (past-first 9 (args .size) (drop (args .at) (args .roll .now)) ∙ ap (λ n. take n (drop 9 (drop (args .at) (args .roll .now)))) short)
+    let none : args .at - args .at ≡ 0 = omega arith in
+    ap (λ n. take n (drop (args .at) (args .roll .now))) none ∙ rw (ne-eqb (args .byte) 2 (c .before .if1 .taken))
 
 add-start : tie.Need-add-start
-add-start c = search needs
+unfolding operandBytes
+add-start c = omega (arith, ap operandBytes (c .if1 .left))
+
+add-end : tie.Need-add-end
+unfolding operandBytes
+add-end c = omega (arith, ap operandBytes (c .if1 .left))
 
 sub-result-2 : tie.Need-sub-result-2
 sub-result-2 c = search needs
@@ -39,24 +42,29 @@ part-result-start-2 : tie.Need-part-result-start-2
 part-result-start-2 c = search needs
 
 part-result-end-2 : tie.Need-part-result-end-2
-part-result-end-2 c = search needs
+unfolding operandBytes
+part-result-end-2 c = omega (arith, ap operandBytes (c .if1 .left))
 
 returns-2 : tie.Need-returns-2
+unfolding operandBytes
 returns-2 c =
     let args = c .before .before .args in
-    let size : args .at + args .size - (args .at + 9) ≡ args .size - 9 = omega arith in
-    ap₂ take size (sym (drop-drop 9 (args .at) (args .roll .now))) ∙ sym (past-first 9 (args .size) (drop (args .at) (args .roll .now)))
+    let l = args .roll .now in
+    let eighty : args .at + 88 - (args .at + 8) ≡ 80 = omega arith in
+    ap₂ take eighty (sym (drop-drop 8 (args .at) l))
+    ∙ sym (part-of-first 8 80 88 (drop (args .at) l) (omega arith))
+    ∙ sym (ap (λ b. lentMarks b (take (operandBytes b) (drop (args .at) l))) (c .before .if1 .left))
 
 pub marks-of-spec : {M : Type 1} → statement M
 marks-of-spec =
     tie.close
     (tie.spec
-    add-end
     sub-result
     part-result-start
     part-result-end
     returns
     add-start
+    add-end
     sub-result-2
     part-result-start-2
     part-result-end-2

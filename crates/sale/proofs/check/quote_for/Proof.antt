@@ -1,246 +1,232 @@
--- `quote_for` meets its contract: each return is at the row that the tests before it lead to, and what looks at the ways does the rest.
+-- `quote_for` meets its contract: a stage that refuses is the first to do so, and what the stages tell is what the quote is to have.
 -- Assumes nothing.
-use mathlib.Core.Path.{_≡_, refl, sym, ap, _∙_}
-use mathlib.Core.Bool.{not}
-use mathlib.Core.List.{List}
+use mathlib.Core.Path.{_≡_, refl, sym, ap, ap₂, _∙_}
+use mathlib.Core.Bool.{Bool}
+use mathlib.Core.List.{List, [], _∷_, _++_}
 use Prim.Native.Nat.{ℕ, _≤_}
 use native.Mathlib.Omega.{arith}
-use lib.ListN.{length, drop}
 use borrow.Author.Needs.{needs}
-use borrow.Author.Tests.{lt-leb, le-leb, not-true, not-false}
-use Rattle.sale.specs.Ways.{sizes, sizeWord, ways, waySizes}
-use Rattle.sale.specs.Checks.{Operands, firstMet, marksFit, operandRows, operandCode}
-use Rattle.sale.specs.Passes.{surveyOf}
+use borrow.Author.Tests.{ltb-false}
+use Rattle.sale.specs.Lists.{every}
+use Rattle.sale.specs.Kinds.{kindOf}
+use Rattle.sale.specs.Ways.{sizes, sizeWord}
+use Rattle.sale.specs.Price.{chargeLimit, charge}
+use Rattle.sale.specs.Checks.{Operands, operandsOf, firstMet, wayCount, chargeOf, markRows, wayRows, stakeRow, chargeRow, operandRows, operandCode}
+use Rattle.sale.specs.Passes.{MarksPassed, LookedAt, WaysChecked}
 use Rattle.sale.specs.declared.survey.Survey.{Survey}
-use Rattle.sale.proofs.CheckLaws.{row-passed, row-met, refusal, within-le, marks-few, marks-by-groups}
-use Rattle.sale.proofs.MarkLaws.{figure-le}
+use Rattle.sale.proofs.CheckLaws.{row-clear, stage-refused, stage-passed, refusal, acceptance}
 use Rattle.sale.proofs.WayLaws.{ways-few}
 use Rattle.sale.proofs.SurveyLaws.{surveyed-count}
 use Rattle.sale.proofs.check.quote_for.Statement.{statement}
 use Rattle.sale.proofs.check.quote_for.Tie as tie
 
--- the operands, as the function is given them
-abbrev sale : tie.Start → Operands
-sale start =
-    record {
-      kind = start .args .kind;
-      games = start .args .games;
-      stake = start .args .stake;
-      groups = start .args .groups;
-      types = start .args .types;
-      marks = start .args .marks .now;
-    }
+abbrev operands : tie.Start → Operands
+operands start = operandsOf (start .args .sale) (start .args .marks .now)
 
--- the function's entry, from where each check is passed
+-- the rows below each stage
+abbrev belowMarks : Operands → List (Bool × ℕ)
+belowMarks o = wayRows o ++ (stakeRow o ∷ chargeRow o ∷ [])
+
+-- the function's entry, from where each stage is passed
 abbrev start1 : tie.Else1 → tie.Start
-start1 c = c .before .before
+start1 c = c .before .before .before
 
 abbrev start2 : tie.Else2 → tie.Start
-start2 c = start1 (c .before .before)
+start2 c = start1 (c .before .before .before .before)
 
 abbrev start3 : tie.Else3 → tie.Start
-start3 c = start2 (c .before .before)
+start3 c = start2 (c .before .before .before)
 
 abbrev start4 : tie.Else4 → tie.Start
-start4 c = start3 (c .before)
+start4 c = start3 (c .before .before .before .before)
 
-abbrev start5 : tie.Else5 → tie.Start
-start5 c = start4 (c .before .before .before)
+-- ---- the marks
 
-abbrev start6 : tie.Else6 → tie.Start
-start6 c = start5 (c .before .before)
+marked : (c : tie.Else1) → MarksPassed (operands (start1 c)) (c .before .check-marks .result .sizes)
+marked c = c .before .check-marks .ensures .passed (c .if1 .left)
 
--- the rows from the k-th on decide
-abbrev Past : ℕ → tie.Start → Type 0
-Past k start = operandCode (sale start) ≡ firstMet (drop k (operandRows (sale start)))
+past-marks : (c : tie.Else1) → operandCode (operands (start1 c)) ≡ firstMet (belowMarks (operands (start1 c)))
+unfolding operandCode operandRows every
+past-marks c =
+    let o = operands (start1 c) in
+    stage-passed (markRows o) (belowMarks o) refl (c .before .check-marks .ensures .code) (c .if1 .left)
 
-past-1 : (c : tie.Else1) → Past 1 (start1 c)
-unfolding operandCode operandRows
-past-1 c = row-passed _ _ _ (ap not (le-leb _ _ (c .if1 .left)))
+-- ---- the ways
 
-past-2 : (c : tie.Else2) → Past 2 (start2 c)
-unfolding operandRows
-past-2 c = past-1 (c .before .before) ∙ row-passed _ _ _ (sym (ap not (c .before .between .ensures)) ∙ c .if2 .left)
+checked : (c : tie.After-check-ways)
+    → WaysChecked (operands (start1 (c .before .before .before))) (c .before .before .of .result) (c .check-ways .result)
+checked c =
+    let kind = c .before .before in
+    c .check-ways .ensures (start1 (kind .before) .args .marks .now) (marked (kind .before)) (kind .of .ensures)
 
-past-3 : (c : tie.Else3) → Past 3 (start3 c)
-unfolding operandRows
-past-3 c = past-2 (c .before .before) ∙ row-passed _ _ _ (sym (ap not (c .before .between2 .ensures)) ∙ c .if3 .left)
+looked : (c : tie.Else2) → LookedAt (operands (start2 c)) (c .before .before .before .of .result) (c .before .check-ways .result .survey)
+looked c = checked (c .before) .passed (c .if2 .left)
 
-few-groups : (c : tie.Else3) → start3 c .args .groups ≤ 8
-few-groups c = within-le 1 (start3 c .args .groups) 8 (sym (c .before .between2 .ensures) ∙ not-false _ (c .if3 .left))
+past-ways : (c : tie.Else2) → let o = operands (start2 c) in operandCode o ≡ firstMet (stakeRow o ∷ chargeRow o ∷ [])
+unfolding every
+past-ways c =
+    let o = operands (start2 c) in
+    past-marks (c .before .before .before .before)
+    ∙ stage-passed (wayRows o) (stakeRow o ∷ chargeRow o ∷ []) refl (checked (c .before) .code) (c .if2 .left)
 
--- the marks fit where the groups do
-marks-test : (c : tie.After-groups-fit)
-    → c .groups-fit .result ≡ marksFit (start4 (c .before .before) .args .groups) (start4 (c .before .before) .args .marks .now)
-marks-test c =
-    let args = start4 (c .before .before) .args in
-    c .groups-fit .ensures
-    ∙ marks-by-groups (args .groups) (args .marks .now) (c .before .before .if4 .left) (c .before .group-sizes .ensures)
-
-past-4 : (c : tie.Else5) → Past 4 (start5 c)
-unfolding operandRows
-past-4 c = past-3 (c .before .before .before .before) ∙ row-passed _ _ _ (sym (ap not (marks-test (c .before))) ∙ c .if5 .left)
-
-past-5 : (c : tie.Else6) → Past 5 (start6 c)
-unfolding operandRows
-past-5 c = past-4 (c .before .before) ∙ row-passed _ _ _ (not-true _ (sym (c .before .types-fit .ensures) ∙ not-false _ (c .if6 .left)))
-
--- the one look at the ways
-surveyed : (c : tie.After-survey-ways)
-    → c .survey-ways .result
-    ≡ surveyOf (waySizes (start6 (c .before .before) .args .groups) (start6 (c .before .before) .args .types) (sizes (start6 (c .before .before) .args .marks .now)))
-surveyed c =
-    let args = start6 (c .before .before) .args in
-    c .survey-ways .ensures
-    ∙ ap (λ (l : List ℕ). surveyOf (waySizes (args .groups) (args .types) l)) (c .before .before .before .before .before .before .group-sizes .ensures)
-
-counted : (c : tie.After-survey-ways)
-    → c .survey-ways .result .count ≡ length (ways (start6 (c .before .before) .args .groups) (start6 (c .before .before) .args .types))
+counted : (c : tie.Else2) → c .before .check-ways .result .survey .count ≡ wayCount (operands (start2 c))
 counted c =
-    let args = start6 (c .before .before) .args in
-    ap (λ (v : Survey). v .count) (surveyed c) ∙ surveyed-count (args .groups) (args .types) (sizes (args .marks .now))
+    let o = operands (start2 c) in
+    ap (λ (v : Survey). v .count) (looked c .survey) ∙ surveyed-count (o .groups) (o .types) (sizes (o .marks))
+
+-- ---- the stake and the charge
+
+stake-code-of : (c : tie.After-stake-code) → c .stake-code .result ≡ firstMet (stakeRow (operands (start2 (c .before .before))) ∷ [])
+stake-code-of c =
+    let here = c .before .before in
+    c .stake-code .ensures (operands (start2 here)) (looked here .kind) (counted here) refl
+
+past-stake : (c : tie.Else3) → let o = operands (start3 c) in operandCode o ≡ firstMet (chargeRow o ∷ [])
+unfolding every
+past-stake c =
+    let o = operands (start3 c) in
+    past-ways (c .before .before .before)
+    ∙ stage-passed (stakeRow o ∷ []) (chargeRow o ∷ []) refl (stake-code-of (c .before)) (c .if3 .left)
+
+charged : (c : tie.After-charge-of) → c .charge-of .result ≡ chargeOf (operands (start3 (c .before .before)))
+charged c =
+    let here = c .before .before in
+    c .charge-of .ensures
+    ∙ ap₂ (charge (start3 here .args .sale .stake)) (counted (here .before .before .before)) (c .before .paid-games .ensures)
+
+charge-code-of : (c : tie.After-charge-code) → c .charge-code .result ≡ firstMet (chargeRow (operands (start3 (c .before .before .before))) ∷ [])
+charge-code-of c = c .charge-code .ensures (operands (start3 (c .before .before .before))) (charged (c .before))
+
+check-marks-requires : tie.Need-check-marks-requires
+check-marks-requires c κs = search needs
 
 refused-requires : tie.Need-refused-requires
 refused-requires c κs = search needs
 
 returns : tie.Need-returns
-unfolding operandCode operandRows
-returns c = c .refused .ensures ∙ refusal (sale (c .before .before .before)) (row-met _ _ _ (ap not (lt-leb _ _ (c .before .if1 .taken)))) refl
+unfolding operandCode operandRows every
+returns c =
+    let told = c .before .before in
+    let o = operands (told .before .before) in
+    c .refused .ensures
+    ∙ refusal o (stage-refused (markRows o) (belowMarks o) refl (told .check-marks .ensures .code) (c .before .if1 .taken)) (c .before .if1 .taken)
 
-between-requires : tie.Need-between-requires
-between-requires c κs = search needs
+of-requires : tie.Need-of-requires
+of-requires c κs = search needs
+
+check-ways-requires : tie.Need-check-ways-requires
+check-ways-requires c κs = let m = marked (c .before .before) in (m .groups, m .bytes)
 
 refused-requires-2 : tie.Need-refused-requires-2
 refused-requires-2 c κs = search needs
 
 returns-2 : tie.Need-returns-2
-unfolding operandRows
+unfolding every
 returns-2 c =
-    let at-test = c .before .before in
+    let told = c .before .before in
+    let passed = told .before .before .before in
+    let o = operands (start1 passed) in
     c .refused2 .ensures
-    ∙ refusal (sale (start1 (at-test .before)))
-    (past-1 (at-test .before) ∙ row-met _ _ _ (sym (ap not (at-test .between .ensures)) ∙ c .before .if2 .taken))
-    refl
+    ∙ refusal o
+    (past-marks passed ∙ stage-refused (wayRows o) (stakeRow o ∷ chargeRow o ∷ []) refl (checked told .code) (c .before .if2 .taken))
+    (c .before .if2 .taken)
 
-between-requires-2 : tie.Need-between-requires-2
-between-requires-2 c κs = search needs
+stake-code-requires : tie.Need-stake-code-requires
+stake-code-requires c κs = search needs
 
 refused-requires-3 : tie.Need-refused-requires-3
 refused-requires-3 c κs = search needs
 
 returns-3 : tie.Need-returns-3
-unfolding operandRows
+unfolding every
 returns-3 c =
-    let at-test = c .before .before in
+    let told = c .before .before in
+    let passed = told .before .before in
+    let o = operands (start2 passed) in
     c .refused3 .ensures
-    ∙ refusal (sale (start2 (at-test .before)))
-    (past-2 (at-test .before) ∙ row-met _ _ _ (sym (ap not (at-test .between2 .ensures)) ∙ c .before .if3 .taken))
-    refl
+    ∙ refusal o
+    (past-ways passed ∙ stage-refused (stakeRow o ∷ []) (chargeRow o ∷ []) refl (stake-code-of told) (c .before .if3 .taken))
+    (c .before .if3 .taken)
+
+paid-games-requires : tie.Need-paid-games-requires
+paid-games-requires c κs = search needs
+
+charge-of-requires : tie.Need-charge-of-requires
+charge-of-requires c κs =
+    let here = c .before .before .before .before in
+    record { few = rw (counted here) (ways-few _ (marked (here .before .before .before .before) .groups .few)) }
+
+charge-code-requires : tie.Need-charge-code-requires
+charge-code-requires c κs = search needs
 
 refused-requires-4 : tie.Need-refused-requires-4
 refused-requires-4 c κs = search needs
 
 returns-4 : tie.Need-returns-4
-unfolding operandRows
 returns-4 c =
-    let passed = c .before .before in
+    let told = c .before .before in
+    let passed = told .before .before .before in
     c .refused4 .ensures
-    ∙ refusal (sale (start3 passed))
-    (past-3 passed ∙ row-met _ _ _ (ap not (marks-few (start3 passed .args .groups) (start3 passed .args .marks .now) (c .before .if4 .taken))))
-    refl
+    ∙ refusal (operands (start3 passed)) (past-stake passed ∙ sym (charge-code-of told)) (c .before .if4 .taken)
 
-group-sizes-requires : tie.Need-group-sizes-requires
-group-sizes-requires c κs = search needs
+cast-t16 : tie.Need-cast-t16
+cast-t16 c =
+    let o = operands (start4 c) in
+    let within : chargeOf o ≤ chargeLimit = ltb-false _ _ (row-clear _ 15 (omega arith) (sym (charge-code-of (c .before)) ∙ c .if4 .left)) in
+    omega (arith, charged (c .before .before), within)
 
-groups-fit-requires : tie.Need-groups-fit-requires
-groups-fit-requires c κs = record { few = few-groups (c .before .before) }
-
-refused-requires-5 : tie.Need-refused-requires-5
-refused-requires-5 c κs = search needs
-
-returns-5 : tie.Need-returns-5
-unfolding operandRows
-returns-5 c =
-    let at-test = c .before .before in
-    let passed = at-test .before .before in
-    c .refused5 .ensures
-    ∙ refusal (sale (start4 passed))
-    (past-3 (passed .before) ∙ row-met _ _ _ (sym (ap not (marks-test at-test)) ∙ c .before .if5 .taken))
-    refl
-
-types-fit-requires : tie.Need-types-fit-requires
-types-fit-requires c κs = record { few = few-groups (c .before .before .before .before) }
-
-refused-requires-6 : tie.Need-refused-requires-6
-refused-requires-6 c κs = search needs
-
-returns-6 : tie.Need-returns-6
-unfolding operandRows
-returns-6 c =
-    let at-test = c .before .before in
-    c .refused6 .ensures
-    ∙ refusal (sale (start5 (at-test .before)))
-    (past-4 (at-test .before) ∙ row-met _ _ _ (not-false _ (sym (at-test .types-fit .ensures) ∙ not-true _ (c .before .if6 .taken))))
-    refl
-
-survey-ways-requires : tie.Need-survey-ways-requires
-survey-ways-requires c κs =
-    let passed = c .before in (
-      record { few = few-groups (passed .before .before .before .before .before .before) },
-      record { small = λ k. rw (passed .before .before .before .before .group-sizes .ensures) (omega (arith, figure-le (start6 passed .args .marks .now) k, passed .before .before .before .before .before .if4 .left)) },
-    )
-
-of-requires : tie.Need-of-requires
-of-requires c κs = search needs
+jackpot-requires : tie.Need-jackpot-requires
+jackpot-requires c κs = search needs
 
 size-word-requires : tie.Need-size-word-requires
 size-word-requires c κs = search needs
 
-quote-ways-requires : tie.Need-quote-ways-requires
-quote-ways-requires c κs =
-    let looked = c .before .before in
-    record { few = rw (counted looked) (ways-few _ (few-groups (looked .before .before .before .before .before .before .before .before))) }
-
-returns-7 : tie.Need-returns-7
-returns-7 c =
-    let word = c .before in
-    let kind = word .before in
-    let looked = kind .before in
-    let passed = looked .before .before in
-    let sized = passed .before .before .before .before in
-    c .quote-ways .ensures (sale (start6 passed))
-    (record {
-      kind = kind .of .ensures;
-      games = refl;
-      stake = refl;
-      survey = surveyed looked;
-      word = word .size-word .ensures ∙ ap sizeWord (sized .group-sizes .ensures);
-      passed = past-5 passed;
+returns-5 : tie.Need-returns-5
+returns-5 c =
+    let jackpot = c .before in
+    let priced = jackpot .before in
+    let start = start4 priced in
+    let o = operands start in
+    let paid = priced .before .before .before in
+    let here = paid .before .before .before .before in
+    let first = here .before .before .before .before in
+    (λ i.
+    record {
+      code = 0;
+      ways = counted here i;
+      paid = paid .paid-games .ensures i;
+      charge = charged (priced .before .before) i;
+      jackpot =
+          jackpot .jackpot .ensures
+          (record { kind = kindOf (o .kind); games = o .games; stake = o .stake; groups = o .groups; types = o .types })
+          (sizes (o .marks))
+          (sym (looked here .kind))
+          (looked here .survey)
+          i;
+      sizes = (c .size-word .ensures ∙ ap sizeWord (marked first .same)) i;
     })
+    ∙ acceptance o (past-stake (paid .before) ∙ sym (charge-code-of (priced .before)) ∙ priced .if4 .left)
 
 pub quote-for-spec : {M : Type 1} → statement M
 quote-for-spec =
     tie.close
     (tie.spec
+    check-marks-requires
     refused-requires
     returns
-    between-requires
+    of-requires
+    check-ways-requires
     refused-requires-2
     returns-2
-    between-requires-2
+    stake-code-requires
     refused-requires-3
     returns-3
+    paid-games-requires
+    charge-of-requires
+    charge-code-requires
     refused-requires-4
     returns-4
-    group-sizes-requires
-    groups-fit-requires
-    refused-requires-5
-    returns-5
-    types-fit-requires
-    refused-requires-6
-    returns-6
-    survey-ways-requires
-    of-requires
+    cast-t16
+    jackpot-requires
     size-word-requires
-    quote-ways-requires
-    returns-7)
+    returns-5)

@@ -4,7 +4,8 @@ use Prim.Native.Nat.{_+_, _<_}
 use native.Mathlib.Omega.{arith}
 use mathlib.Core.Path.{_≡_, refl, sym, ap, _∙_}
 use borrow.Author.Needs.{needs}
-use Rattle.sale.specs.Checks.{Operands}
+use Rattle.sale.specs.Checks.{Operands, operandsOf, acceptedQuote}
+use Rattle.sale.proofs.CheckLaws.{acceptance}
 use Rattle.house.specs.Model.{Model, liveLimit}
 use Rattle.house.specs.Commands.{sell, codeOf, act, reply, replies}
 use Rattle.house.specs.Till.{tillOf}
@@ -12,15 +13,13 @@ use Rattle.house.specs.View.{view}
 use Rattle.house.proofs.Refusals.{SellAccepted, sell-accepted, OperandsAccepted, operands-accepted}
 use Rattle.house.proofs.ReachedHouses.{Sure, reached-sure}
 use Rattle.house.proofs.ViewLaws.{carried-refused, carried-done, live-count}
-use Rattle.tickets.proofs.SellLaws.{sale-closed, told, quoted-code, quoted, house-sold}
+use Rattle.tickets.proofs.SellLaws.{sale-closed, quoted-code, house-sold}
 use Rattle.tickets.proofs.sell.sell_ticket.Statement.{statement}
 use Rattle.tickets.proofs.sell.sell_ticket.Tie as tie
 
 -- the operands, and the house at entry
-abbrev sale : tie.Start → Operands
-sale start =
-    let args = start .args in
-    record { kind = args .kind; games = args .games; stake = args .stake; groups = args .groups; types = args .types; marks = args .from .now }
+abbrev operands : tie.Start → Operands
+operands start = operandsOf (start .args .sale) (start .args .from .now)
 
 abbrev entry : tie.Start → Model
 entry start = view (start .args .house) (start .args .rows .now) (start .args .marks .now)
@@ -29,27 +28,27 @@ sure : (start : tie.Start) → Sure (entry start)
 sure start = reached-sure (entry start) (start .pre)
 
 -- the code of the sale, and what it tells where it is 0
-coded : (c : tie.After-sale-code) → c .sale-code .result ≡ codeOf (entry (c .before .before .before .before)) (sell (sale (c .before .before .before .before)))
+coded : (c : tie.After-sale-code) → c .sale-code .result ≡ codeOf (entry (c .before .before .before .before)) (sell (operands (c .before .before .before .before)))
 coded c =
     let start = c .before .before .before .before in
-    c .sale-code .ensures (start .args .rows .now) (start .args .marks .now) (sale start) refl
-    (sym (ap (λ q. q .code) (c .before .quote-for .ensures) ∙ quoted-code (sale start)))
+    c .sale-code .ensures (start .args .rows .now) (start .args .marks .now) (operands start) refl
+    (sym (ap (λ q. q .code) (c .before .quote-for .ensures) ∙ quoted-code (operands start)))
 
 -- where it is 0
 abbrev begun : tie.Else2 → tie.Start
 begun c = c .before .before .before .before .before
 
-passed : (c : tie.Else2) → codeOf (entry (begun c)) (sell (sale (begun c))) ≡ 0
+passed : (c : tie.Else2) → codeOf (entry (begun c)) (sell (operands (begun c))) ≡ 0
 passed c = sym (coded (c .before)) ∙ c .if2 .left
 
-allowed : (c : tie.Else2) → SellAccepted (entry (begun c)) (sale (begun c))
-allowed c = sell-accepted (entry (begun c)) (sale (begun c)) (passed c)
+allowed : (c : tie.Else2) → SellAccepted (entry (begun c)) (operands (begun c))
+allowed c = sell-accepted (entry (begun c)) (operands (begun c)) (passed c)
 
-fitting : (c : tie.Else2) → OperandsAccepted (sale (begun c))
-fitting c = operands-accepted (sale (begun c)) (allowed c .checked)
+fitting : (c : tie.Else2) → OperandsAccepted (operands (begun c))
+fitting c = operands-accepted (operands (begun c)) (allowed c .checked)
 
-priced : (c : tie.Else2) → c .before .before .quote-for .result ≡ told (sale (begun c))
-priced c = c .before .before .quote-for .ensures ∙ quoted (sale (begun c)) (allowed c .checked)
+priced : (c : tie.Else2) → c .before .before .quote-for .result ≡ acceptedQuote (operands (begun c))
+priced c = c .before .before .quote-for .ensures ∙ sym (acceptance (operands (begun c)) (allowed c .checked))
 
 room : (c : tie.Else2) → begun c .args .house .live < liveLimit
 room c =
@@ -64,8 +63,8 @@ unfolding view
 returns c =
     let start = c .before .before .before in
     let args = start .args in
-    carried-refused (args .house) (args .rows .now) (args .marks .now) (sell (sale start)) 4 _ _
-    (sale-closed (entry start) (sale start) (c .before .if1 .taken))
+    carried-refused (args .house) (args .rows .now) (args .marks .now) (sell (operands start)) 4 _ _
+    (sale-closed (entry start) (operands start) (c .before .if1 .taken))
     (omega arith)
     (c .refused .ensures .0)
     (c .refused .ensures .1)
@@ -84,7 +83,7 @@ returns-2 : tie.Need-returns-2
 returns-2 c =
     let start = c .before .before .before .before .before .before in
     let args = start .args in
-    carried-refused (args .house) (args .rows .now) (args .marks .now) (sell (sale start)) _ _ _
+    carried-refused (args .house) (args .rows .now) (args .marks .now) (sell (operands start)) _ _ _
     (sym (coded (c .before .before)))
     (c .before .if2 .taken)
     (c .refused2 .ensures .0)
@@ -143,9 +142,9 @@ returns-3 c =
     let words′ = appended .append-ticket .last .0 in
     let marks′ = appended .append-ticket .last .1 .0 in
     let charged = ap (λ q. q .charge) (priced here) in
-    carried-done (args .house) words marks (sell (sale start)) _ words′ marks′ _ (passed here)
+    carried-done (args .house) words marks (sell (operands start)) _ words′ marks′ _ (passed here)
     (ap (λ h. view h words′ marks′) (c .accepted .ensures .0)
-    ∙ house-sold (args .house) words marks (sale start) _ words′ marks′ _ (room here) charged (appended .append-ticket .ensures) (made .sold-row .ensures words marks (args .from .now) (record { quote = here .before .before .quote-for .ensures; passed = allowed here .checked })))
+    ∙ house-sold (args .house) words marks (operands start) _ words′ marks′ _ (room here) charged (appended .append-ticket .ensures) (made .sold-row .ensures words marks (args .from .now) (record { quote = here .before .before .quote-for .ensures; passed = allowed here .checked })))
     (c .accepted .ensures .1 ∙ ap (replies (args .house .issued + 1)) charged)
 
 pub sell-ticket-spec : {M : Type 1} → statement M

@@ -1,56 +1,74 @@
 -- `tickets::sell::sold_row` meets its contract, field by field: what a quote tells of its operands is what the ticket keeps.
+use Prim.Native.Nat.{_+_, _≤_}
 use native.Mathlib.Omega.{arith}
-use mathlib.Core.Path.{_≡_, ap, _∙_}
+use mathlib.Core.Path.{_≡_, sym, ap, _∙_}
 use mathlib.Core.List.{[]}
 use borrow.Author.Needs.{needs}
-use Rattle.sale.specs.Checks.{Operands}
+use Rattle.sale.specs.Checks.{operandsOf, acceptedQuote}
 use Rattle.sale.specs.declared.check.Quote.{Quote}
+use Rattle.sale.proofs.CheckLaws.{acceptance}
 use Rattle.house.specs.View.{view}
-use Rattle.tickets.proofs.SellLaws.{told, quoted, next-within, ticket-sold}
+use Rattle.tickets.proofs.SellLaws.{next-within, ticket-sold}
 use Rattle.tickets.proofs.sell.sold_row.Statement.{statement}
 use Rattle.tickets.proofs.sell.sold_row.Tie as tie
 
 first-game-requires : tie.Need-first-game-requires
 first-game-requires c κs = search needs
 
-paid-games-requires : tie.Need-paid-games-requires
-paid-games-requires c κs = search needs
+add-t5 : tie.Need-add-t5
+add-t5 c = search needs
 
-add-t10 : tie.Need-add-t10
-add-t10 c = search needs
+cast-t6 : tie.Need-cast-t6
+cast-t6 c = search needs
 
-cast-t16 : tie.Need-cast-t16
-cast-t16 c = search needs
+cast-t7 : tie.Need-cast-t7
+cast-t7 c = search needs
 
-cast-t17 : tie.Need-cast-t17
-cast-t17 c = search needs
+cast-t8 : tie.Need-cast-t8
+cast-t8 c = search needs
 
-add-t19 : tie.Need-add-t19
+cast-t9 : tie.Need-cast-t9
+cast-t9 c = search needs
+
+cast-t10 : tie.Need-cast-t10
+cast-t10 c = search needs
+
+cast-t11 : tie.Need-cast-t11
+cast-t11 c = search needs
+
+cast-t12 : tie.Need-cast-t12
+cast-t12 c = search needs
+
+cast-t13 : tie.Need-cast-t13
+cast-t13 c = search needs
+
+-- where the first game is known, from the fields that count on from it
+abbrev began : tie.After-struct-known9 → tie.After-first-game
+began c = c .before .before .before .before .before .before .before .before .before
+
+game-within : (c : tie.After-first-game) → c .first-game .result ≤ c .before .args .house .game + 1
 unfolding view
-add-t19 c =
-    let called = c .before .before .before .before in
-    omega (arith, called .first-game .ensures [] [], next-within (view (called .before .args .house) [] []))
+game-within c = omega (arith, c .first-game .ensures [] [], next-within (view (c .before .args .house) [] []))
 
-cast-t20 : tie.Need-cast-t20
-cast-t20 c = search needs
+add-t14 : tie.Need-add-t14
+add-t14 c = omega (arith, game-within (began c))
 
-add-t21 : tie.Need-add-t21
-unfolding view
-add-t21 c =
-    let called = c .before .before .before .before in
-    omega (arith, called .first-game .ensures [] [], next-within (view (called .before .args .house) [] []))
+cast-t15 : tie.Need-cast-t15
+cast-t15 c = search needs
+
+add-t16 : tie.Need-add-t16
+add-t16 c = omega (arith, game-within (began (c .before)))
 
 returns : tie.Need-returns
 returns c = λ words marks from q.
-    let paid = c .before .before .before in
-    let began = paid .before in
-    let args = began .before .args in
-    let o : Operands = record { kind = args .kind; games = args .games; stake = args .stake; groups = args .groups; types = args .types; marks = from } in
-    let same : args .quote ≡ told o = q .quote ∙ quoted o (q .passed) in
-    ticket-sold (args .house) words marks o _ _ _ _ _ (began .first-game .ensures words marks)
+    let first = began (c .before) in
+    let args = first .before .args in
+    let o = operandsOf (args .sale) from in
+    let same : args .quote ≡ acceptedQuote o = q .quote ∙ sym (acceptance o (q .passed)) in
+    ticket-sold (args .house) words marks o _ _ _ _ _ (first .first-game .ensures words marks)
     (ap (λ (t : Quote). t .jackpot) same)
     (ap (λ (t : Quote). t .sizes) same)
-    (paid .paid-games .ensures)
+    (ap (λ (t : Quote). t .paid) same)
     (ap (λ (t : Quote). t .ways) same)
 
 pub sold-row-spec : {M : Type 1} → statement M
@@ -58,11 +76,16 @@ sold-row-spec =
     tie.close
     (tie.spec
     first-game-requires
-    paid-games-requires
-    add-t10
-    cast-t16
-    cast-t17
-    add-t19
-    cast-t20
-    add-t21
+    add-t5
+    cast-t6
+    cast-t7
+    cast-t8
+    cast-t9
+    cast-t10
+    cast-t11
+    cast-t12
+    cast-t13
+    add-t14
+    cast-t15
+    add-t16
     returns)
