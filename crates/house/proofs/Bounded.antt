@@ -9,6 +9,7 @@ use mathlib.Core.List.{List, [], _∷_, map, List·Memᴰ, List·Memᴰ·head, L
 use lib.Dec.{eqb}
 use lib.ListN.{length, length-append, length-map}
 use borrow.Author.Tests.{eqb-true}
+use Rattle.prizes.specs.Hits.{drawOf}
 use Rattle.sale.specs.Lists.{sum, keep, any, member}
 use Rattle.sale.specs.Ways.{ways}
 use Rattle.sale.specs.Price.{chargeLimit, paidGames, charge}
@@ -206,7 +207,7 @@ module _ (m : Model) (ok : Orderly m) (few : length (stillLive (m .game) (m .liv
   settled-within : settlement b (houseOf m) .prizes + settlement b (houseOf m) .contributions ≤ perGame
   unfolding settlement entries
   settled-within =
-      let draw : Draw = record { balls = ballsWith b (houseOf m) } in
+      let draw : Draw = drawOf (ballsWith b (houseOf m)) in
       omega (
         arith,
         entries-few,
@@ -226,7 +227,7 @@ game-bounded :
     → Bounded (withLive (gameSettled b (houseOf m)) ts)
 unfolding gameSettled settlement
 game-bounded m ok bounds b notLast ts few =
-    let draw : Draw = record { balls = ballsWith b (houseOf m) } in
+    let draw : Draw = drawOf (ballsWith b (houseOf m)) in
     let es : List Entry = map (entryOf (m .game)) (runningIn (houseOf m)) in
     let lost = settled-within m ok (bounds .live) b in
     let seeds = seeds-within draw (m .six) (m .eight) es in

@@ -12,7 +12,7 @@ use lib.Seq.{ext-getD}
 use borrow.Author.Tests.{le-leb, leb-true, eq-eqb, ne-eqb, eqb-false}
 use Rattle.sale.specs.Lists.{below, keep, every, any, member}
 use Rattle.sale.specs.Ways.{markOf, sizeOf}
-use Rattle.prizes.specs.Hits.{hitsOf}
+use Rattle.prizes.specs.Hits.{drawOf, hitsOf}
 use Rattle.sale.proofs.KeepLaws.{keep-append, length-keep-le}
 use Rattle.house.specs.Model.{Model, fresh}
 use Rattle.house.specs.Commands.{Command, open′, sell, cancel, ball, claim, expire, transfer, codeOf, act, step, ballsWith, settles, opened, sold, cancelled, gameSettled, ballEntered, claimed, expired, transferred}
@@ -211,7 +211,7 @@ hits-drawn balls marks k draw eighty =
     ap (λ l. length (keep (eqb k) l)) (sym (marks-of-numbers marks eighty))
     ∙ ap length (keep-map (eqb k) (markOf marks) (map suc (below 80)))
     ∙ length-map (keep p (map suc (below 80))) (markOf marks) in
-    let hits : hitsOf (record { balls = balls }) marks k ≡ length (drawnOf balls marks k) =
+    let hits : hitsOf (drawOf balls) marks k ≡ length (drawnOf balls marks k) =
     ap length (keep-map (eqb k) (markOf marks) balls)
     ∙ length-map (keep p balls) (markOf marks)
     ∙ drawn-counted p balls (draw .numbers) (draw .different)

@@ -9,6 +9,7 @@ use native.Mathlib.Omega.{arith}
 use lib.Dec.{ltb, eqb}
 use lib.ListN.{length}
 use borrow.Author.Tests.{eqb-true, ne-eqb}
+use Rattle.prizes.specs.Hits.{drawOf}
 use Rattle.sale.specs.Lists.{sum, keep, any, member}
 use Rattle.sale.specs.Checks.{Operands, chargeOf, wayCount}
 use Rattle.sale.specs.Price.{charge, paidGames}
@@ -314,7 +315,7 @@ entries-alike m orderly =
 
 pub settlements-alike : (m : Model) (b : ℕ) → Orderly m → sheetSettlement b (sheetFor m) ≡ settlement b (houseOf m)
 unfolding sheetSettlement settlement
-settlements-alike m b orderly = ap (settle (record { balls = m .balls ++ (b ∷ []) }) (m .six) (m .eight)) (entries-alike m orderly)
+settlements-alike m b orderly = ap (settle (drawOf (m .balls ++ (b ∷ []))) (m .six) (m .eight)) (entries-alike m orderly)
 
 pub stakes-alike : (m : Model) → Orderly m → stakesPlayed (sheetFor m) ≡ stakesDrawn (houseOf m)
 stakes-alike m orderly =

@@ -11,6 +11,7 @@ use native.Mathlib.Omega.{arith}
 use lib.Dec.{eqb, eqb·suc-suc}
 use lib.ListN.{length, length-append, length-map}
 use borrow.Author.Tests.{eq-eqb, ne-eqb}
+use Rattle.prizes.specs.Hits.{drawOf}
 use Rattle.sale.specs.Lists.{sum, keep}
 use Rattle.sale.specs.Checks.{Operands, chargeOf}
 use Rattle.prizes.specs.Jackpots.{pooled}
@@ -176,7 +177,7 @@ module _ (m : Model) (b : ℕ) where
   awards-given : length (result .awards) ≡ length (keep (runsIn (m .game)) (m .live))
   unfolding settlement
   awards-given =
-      awards-count (record { balls = ballsWith b m }) (m .six) (m .eight) (map (entryOf (m .game)) (runningIn (houseOf m)))
+      awards-count (drawOf (ballsWith b m)) (m .six) (m .eight) (map (entryOf (m .game)) (runningIn (houseOf m)))
       ∙ length-map (runningIn (houseOf m)) (entryOf (m .game))
       ∙ ap length (running-live (m .game) (m .live))
 
@@ -190,7 +191,7 @@ module _ (m : Model) (b : ℕ) where
       (awarded (m .game) (result .awards) (m .live))
       ∙ awarded-owed (m .game) (result .awards) (m .live) awards-given
       ∙ ap (λ n. dues (m .live) + n)
-      (awards-sum (record { balls = ballsWith b m }) (m .six) (m .eight) (map (entryOf (m .game)) (runningIn (houseOf m))))
+      (awards-sum (drawOf (ballsWith b m)) (m .six) (m .eight) (map (entryOf (m .game)) (runningIn (houseOf m))))
 
   settled-held : stakesHeld (m .game) (m .live) ≡ stakesHeld (m .game + 1) ticketsThen + stakesDrawn (houseOf m)
   unfolding paidStakes
@@ -211,7 +212,7 @@ module _ (m : Model) (b : ℕ) where
       ≡ pooled (m .six) + pooled (m .eight) + result .contributions + result .seeds
   unfolding settlement
   settled-pools =
-      pools-balance (record { balls = ballsWith b m }) (m .six) (m .eight) (map (entryOf (m .game)) (runningIn (houseOf m)))
+      pools-balance (drawOf (ballsWith b m)) (m .six) (m .eight) (map (entryOf (m .game)) (runningIn (houseOf m)))
 
   settled-sheet : Orderly m → sheetThen ≡ sheetFor (withLive (gameSettled b (houseOf m)) ticketsThen)
   unfolding sheetSettle onFigure gameSettled tillOf

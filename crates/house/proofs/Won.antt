@@ -8,6 +8,7 @@ use mathlib.Core.List.{List, [], _∷_, _++_, map}
 use lib.Dec.{ltb, leb, eqb}
 use lib.ListN.{length, length-append, length-map}
 use borrow.Author.Tests.{ltb-true, leb-true, eq-eqb, ne-eqb, eqb-true, eqb-false}
+use Rattle.prizes.specs.Hits.{drawOf}
 use Rattle.sale.specs.Lists.{sum, keep, member}
 use Rattle.sale.specs.Checks.{Operands}
 use Rattle.house.specs.Tickets.{Ticket, runsIn, gamesLeft, isFinished, isLive, entryOf, withDue, withStop, withFinishedDay}
@@ -446,7 +447,7 @@ settled-ticket m log e b lines awards t is game last award f = go (runsIn (m .ga
 award-count : (m : Model) (b : ℕ) → length (settlement b (houseOf m) .awards) ≡ length (keep (runsIn (m .game)) (m .live))
 unfolding settlement
 award-count m b =
-    awards-count (record { balls = m .balls ++ (b ∷ []) }) (m .six) (m .eight) (map (entryOf (m .game)) (runningIn (houseOf m)))
+    awards-count (drawOf (m .balls ++ (b ∷ []))) (m .six) (m .eight) (map (entryOf (m .game)) (runningIn (houseOf m)))
     ∙ length-map (runningIn (houseOf m)) (entryOf (m .game))
     ∙ ap length (running-live (m .game) (m .live))
 

@@ -8,7 +8,7 @@ use lib.Dec.{leb, eqb}
 use lib.ListN.{length}
 use Rattle.sale.specs.Lists.{below, keep, every, member}
 use Rattle.sale.specs.Ways.{markOf, sizeOf}
-use Rattle.prizes.specs.Hits.{hitsOf}
+use Rattle.prizes.specs.Hits.{drawOf, hitsOf}
 
 -- no number stands twice
 abbrev pub Different : List ℕ → Type 0
@@ -28,6 +28,6 @@ drawnOf balls marks k = keep (λ n. member n balls) (numbersOf marks k)
 
 -- a group's hits and size, told by its numbers
 pub record HitsDrawn (balls marks : List ℕ) (k : ℕ) : Type 0 where
-  pub hits : hitsOf (record { balls = balls }) marks k ≡ length (drawnOf balls marks k)
+  pub hits : hitsOf (drawOf balls) marks k ≡ length (drawnOf balls marks k)
   pub size : sizeOf marks k ≡ length (numbersOf marks k)
-  pub most : hitsOf (record { balls = balls }) marks k ≤ sizeOf marks k
+  pub most : hitsOf (drawOf balls) marks k ≤ sizeOf marks k

@@ -8,6 +8,7 @@ use mathlib.Core.Bool.{Bool, cond, not, _&&_}
 use mathlib.Core.List.{List, [], _∷_, _++_, map}
 use lib.Dec.{ltb, eqb}
 use lib.ListN.{length}
+use Rattle.prizes.specs.Hits.{drawOf}
 use Rattle.sale.specs.Lists.{sum, keep, member}
 use Rattle.sale.specs.Kinds.{kindOf}
 use Rattle.sale.specs.Price.{paidGames, charge}
@@ -186,7 +187,7 @@ stakesPlayed s = sum (map (λ l. stakesOf l (s .game ∷ [])) (playing s))
 
 unfoldable pub sheetSettlement : ℕ → Sheet → Settled
 sheetSettlement b s =
-    settle (record { balls = s .balls ++ (b ∷ []) }) (s .six) (s .eight) (map (lineEntry (s .game)) (playing s))
+    settle (drawOf (s .balls ++ (b ∷ []))) (s .six) (s .eight) (map (lineEntry (s .game)) (playing s))
 
 -- "Prizes as cut and jackpot shares join the lines' dues [..]. The game is left no more"
 unfoldable pub settleLines : ℕ → ℕ → List ℕ → List Line → List Line

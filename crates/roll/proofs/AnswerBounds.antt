@@ -9,6 +9,7 @@ use mathlib.Core.Logic.{⊎-elim}
 use lib.Dec.{eqb}
 use lib.ListN.{length, length-append}
 use borrow.Author.Tests.{eqb-true, eqb-false}
+use Rattle.prizes.specs.Hits.{drawOf}
 use Rattle.sale.proofs.KeepLaws.{length-keep-le}
 use Rattle.prizes.proofs.SettleLaws.{pools-balance}
 use Rattle.house.specs.Tickets.{entryOf}
@@ -40,7 +41,7 @@ ShortDay (transfer j cents) = Unit {0}
 game-shown : (m : Model) (b : ℕ) → Sure m → Sure (gameSettled b m) → settlement b m .prizes + settlement b m .shares < 2 ^ 64
 unfolding settlement gameSettled tillOf
 game-shown m b before after =
-    let pools = pools-balance (record { balls = ballsWith b m }) (m .six) (m .eight) (map (entryOf (m .game)) (runningIn m)) in
+    let pools = pools-balance (drawOf (ballsWith b m)) (m .six) (m .eight) (map (entryOf (m .game)) (runningIn m)) in
     omega (arith, pools, before .fit .figures .pooled, after .fit .figures .lost, after .fit .figures .seeds)
 
 reply-shown : (m : Model) (c : Command) → ShortDay c → Sure m → Sure (act m c) → codeOf m c ≡ 0 → Shown (reply m c)

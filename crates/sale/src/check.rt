@@ -1,6 +1,7 @@
 // The operand checks of Sell.
 use crate::marks::group_sizes;
 use crate::marks::size_word;
+use crate::price::CHARGE_LIMIT;
 use crate::price::charge_of;
 use crate::price::paid_games;
 use crate::price::stake_fits;
@@ -193,7 +194,7 @@ fn stake_code(kind: Kind, count: u32, stake: u32) -> u8
 fn charge_code(charge: u64) -> u8
     ensures { λ r. ⌜ ((o : Operands) → charge ≡ chargeOf o → r ≡ firstMet (chargeRow o ∷ [])) ⌝ }
 {
-    if 999_900 < charge { 15 } else { 0 }
+    if CHARGE_LIMIT < charge { 15 } else { 0 }
 }
 
 // The checks in the order of their numbers: the first that is not passed refuses the sale.

@@ -4,6 +4,9 @@ ghost use mathlib.Core.Path.{_≡_};
 ghost use Rattle.sale.specs.Price.{paidGames, minimumStake, stakeFits, charge};
 ghost use Rattle.sale.specs.Bounds.{Counted};
 
+// The most that a ticket costs, in cents.
+pub const CHARGE_LIMIT: u64 = 999_900;
+
 // The games that are paid for: of 50 and more the last one is free, of 100 the last two.
 pub fn paid_games(games: u8) -> u8
     ensures { λ r. ⌜ r ≡ paidGames games ⌝ }
