@@ -131,8 +131,8 @@ pub(crate) fn end_game(
         → view r (now (rows .exit)) (now (marks .exit)) ≡ gameEnded figures (view house (now (rows .entry)) (now (marks .entry)))) ⌝ }
 {
     let left = close_tickets(house, rows, marks, awards);
-    let game = house.game + 1;
-    house.game = game;
+    let next = house.game + 1;
+    house.game = next;
     house.drawn = 0;
     house.live = left as u64;
     house

@@ -16,8 +16,8 @@ use Rattle.draw.proofs.game_end.end_game.Tie as tie
 close-tickets-requires : tie.Need-close-tickets-requires
 close-tickets-requires c κs = search needs
 
-add-game : tie.Need-add-game
-add-game c = search needs
+add-next : tie.Need-add-next
+add-next c = search needs
 
 returns : tie.Need-returns
 unfolding view below
@@ -32,4 +32,4 @@ returns c = λ figures held.
     (view-live after rows marks (omega (arith, closed .ensures .0, start .pre .few)) ∙ closed .ensures .1 figures held)
 
 pub end-game-spec : {M : Type 1} → statement M
-end-game-spec = tie.close (tie.spec close-tickets-requires add-game returns)
+end-game-spec = tie.close (tie.spec close-tickets-requires add-next returns)
