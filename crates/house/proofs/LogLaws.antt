@@ -13,7 +13,7 @@ use Rattle.sale.proofs.KeepLaws.{ltb-same}
 use Rattle.house.specs.Commands.{Command}
 use Rattle.house.specs.Draws.{Different}
 use Rattle.house.specs.Sheet.{feed, moved, playing, sheetSettlement, gamesFrom}
-use Rattle.house.specs.Claims.{Log, Logged, sheetOf, Effect, nothing, issues, takesOff, draws, pays, effectOf, effectIn, Progress, progressAfter, progressOf, gameOf, nextOf, drawnAfter, drawn, Span, gamesOf, spanAfter, spanOf, awardAt, awardAfter, awardIn, wonBy, paymentsAfter, payments}
+use Rattle.house.specs.Claims.{Log, Logged, sheetOf, Effect, nothing, issues, takesOff, draws, pays, effectOf, effectIn, Progress, nineteenIn, progressAfter, progressOf, gameOf, nextOf, drawnAfter, drawn, Span, gamesOf, spanAfter, spanOf, awardAt, awardAfter, awardIn, wonBy, paymentsAfter, payments}
 use Rattle.house.proofs.MoneyLaws.{all-of, keep-same, keep-keep, sum-picked, sum-parts}
 use Rattle.house.proofs.SpanLaws.{keep-below}
 use Rattle.house.proofs.RowLists.{equal-or-not, earlier-or-not}
@@ -180,7 +180,7 @@ not-drawn (e ∷ log) g later = go (effectIn e) (not-drawn log g) later
     go nothing rest later = rest later
     go (issues games) rest later = rest later
     go (takesOff k) rest later = rest later
-    go (draws b) rest later = drawing (eqb (progressOf log .balls) 19) rest later
+    go (draws b) rest later = drawing (nineteenIn (progressOf log)) rest later
     go (pays k) rest later = rest later
 
 -- today no game is left out: every one from 1 up to the current one is drawn
@@ -209,7 +209,7 @@ drawn-today (e ∷ log) g some = go (effectIn e) (drawn-today log g some)
     go nothing rest = rest
     go (issues games) rest = rest
     go (takesOff k) rest = rest
-    go (draws b) rest = drawing (eqb (progressOf log .balls) 19) rest
+    go (draws b) rest = drawing (nineteenIn (progressOf log)) rest
     go (pays k) rest = rest
 
 -- ---- a number that was never issued
@@ -249,7 +249,7 @@ unissued-span (e ∷ log) n never = go (effectIn e) (unissued-span log n) never
         cond-same : (b : Bool) → cond b (record { first = 0; stop = min 0 (nextOf log) }) none ≡ none
         cond-same true = let zero′ : min 0 (nextOf log) ≡ 0 = omega arith in λ i. record { first = 0; stop = zero′ i }
         cond-same false = refl
-    go (draws b) rest never = drawing (eqb (progressOf log .balls) 19) rest never
+    go (draws b) rest never = drawing (nineteenIn (progressOf log)) rest never
     go (pays k) rest never = rest never
 
 -- ---- a number that an effect does not touch
@@ -271,7 +271,7 @@ abbrev pub Untouched : ℕ → Log → Effect → Type 0
 Untouched n log nothing = Unit {0}
 Untouched n log (issues games) = progressOf log .issued + 1 ≡ n → ⊥
 Untouched n log (takesOff k) = k ≡ n → ⊥
-Untouched n log (draws b) = progressOf log .balls ≡ 19 → ⊥
+Untouched n log (draws b) = nineteenIn (progressOf log) ≡ false
 Untouched n log (pays k) = k ≡ n → ⊥
 
 pub untouched : (n : ℕ) (log : Log) (e : Logged) → Untouched n log (effectIn e) → SameTold n log (e ∷ log)
@@ -295,9 +295,7 @@ untouched n log e free =
     go (takesOff k) free =
         let same : spanAfter n log (spanOf n log) (takesOff k) ≡ spanOf n log = rw (ne-eqb k n free) in
         (same, ap wonIn same, refl)
-    go (draws b) free =
-        let early : eqb (progressOf log .balls) 19 ≡ false = ne-eqb (progressOf log .balls) 19 free in
-        (refl, rw early, refl)
+    go (draws b) early = (refl, rw early, refl)
     go (pays k) free = (refl, refl, rw (ne-eqb k n free))
 
 -- ---- a number that it touches
@@ -354,7 +352,7 @@ module _ (e : Logged) (log : Log) where
   -- the twentieth ball adds the game's award, where the span has the game
   pub game-drawn : (b n : ℕ)
       → effectIn e ≡ draws b
-      → progressOf log .balls ≡ 19
+      → nineteenIn (progressOf log) ≡ true
       → (spanOf n (e ∷ log) ≡ spanOf n log)
       × (wonBy n (e ∷ log) ≡ wonBy n log + cond (member (gameOf log) (gamesOf (spanOf n log))) (awardNow b n log) 0)
       × (payments n (e ∷ log) ≡ payments n log)
@@ -362,7 +360,7 @@ module _ (e : Logged) (log : Log) where
   game-drawn b n is last = (
     ap (spanAfter n log (spanOf n log)) is,
     ap (wonAfter n log) is
-        ∙ rw (eq-eqb (progressOf log .balls) 19 last)
+        ∙ rw last
         (won-more (gameOf log) (awardNow b n log) (drawn log) (λ g. awardIn n g log) (gamesOf (spanOf n log)) (not-drawn log (gameOf log) (omega arith))
         (different-games (spanOf n log .first) (spanOf n log .stop - spanOf n log .first))),
     ap (paymentsAfter n (payments n log)) is,

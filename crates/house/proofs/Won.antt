@@ -16,7 +16,7 @@ use Rattle.house.specs.Model.{Model, fresh, nextGame}
 use Rattle.house.specs.Commands.{Command, open′, sell, cancel, ball, claim, expire, transfer, codeOf, reply, act, opened, sold, cancelled, claimed, expired, transferred, stillLive, changed, cancelStop, isExpired, ticketAt, soldTicket, cancelledTicket, settles, ballEntered, gameSettled, settlement, runningIn, awarded, finishedOn}
 use Rattle.house.specs.Sheet.{Sheet, Line, playing, sheetSettlement}
 use Rattle.house.specs.Till.{tillOf}
-use Rattle.house.specs.Claims.{Log, Logged, sheetOf, nothing, issues, takesOff, draws, pays, effectOf, effectIn, Progress, progressAfter, progressOf, gameOf, nextOf, Span, gamesOf, spanOf, awardAt, wonBy, paymentsAfter, payments}
+use Rattle.house.specs.Claims.{Log, Logged, sheetOf, nothing, issues, takesOff, draws, pays, effectOf, effectIn, Progress, nineteenIn, progressAfter, progressOf, gameOf, nextOf, Span, gamesOf, spanOf, awardAt, wonBy, paymentsAfter, payments}
 use Rattle.house.proofs.Ledger.{withLive, houseOf, ledgerAfter, lineOf, sheetFor, All, Orderly}
 use Rattle.house.proofs.LiveTickets.{running-live, next-game-least}
 use Rattle.house.proofs.ListLaws.{All-map, All-append}
@@ -131,14 +131,11 @@ module _ (m : Model) (log : Log) (told : Told m log) where
   pub game-told : gameOf log ≡ m .game
   game-told = ap (λ (p : Progress). p .game) (told .progress)
 
-  balls-told : progressOf log .balls ≡ length (m .balls)
-  balls-told = ap (λ (p : Progress). p .balls) (told .progress)
-
   pub issued-told : progressOf log .issued ≡ m .issued
   issued-told = ap (λ (p : Progress). p .issued) (told .progress)
 
   next-told : nextOf log ≡ nextGame m
-  next-told = (λ i. cond (eqb (balls-told i) 0) (game-told i) (game-told i + 1)) ∙ go (eqb (length (m .balls)) 0)
+  next-told = ap (λ (p : Progress). cond (eqb (p .balls) 0) (p .game) (p .game + 1)) (told .progress) ∙ go (eqb (length (m .balls)) 0)
     where
       go : (none : Bool) → cond none (m .game) (m .game + 1) ≡ cond (not none) (m .game + 1) (m .game)
       go true = refl
@@ -387,15 +384,15 @@ unfolding ballEntered effectIn effectOf progressOf progressAfter payments paymen
 told-early m log b told early sheet =
     let size : length (m .balls ++ (b ∷ [])) ≡ length (m .balls) + 1 = length-append (m .balls) (b ∷ []) in
     let short : length (m .balls ++ (b ∷ [])) ≡ 20 → ⊥ = eqb-false (length (m .balls ++ (b ∷ []))) 20 early in
-    let fewer : length (m .balls) ≡ 19 → ⊥ = λ last. short (omega arith) in
+    let waits : nineteenIn (progressFor m) ≡ false = ne-eqb (length (m .balls)) 19 (λ last. short (omega arith)) in
     record {
       sheet = sheet;
       progress =
           ap (λ (p : Progress). progressAfter p (draws b)) (told .progress)
-          ∙ rw (ne-eqb (length (m .balls)) 19 fewer) (λ i. record { game = m .game; balls = sym size i; issued = m .issued });
+          ∙ rw waits (λ i. record { game = m .game; balls = sym size i; issued = m .issued });
       tickets =
           tickets-same (m .game) log (withBall b log) (m .live)
-          (λ n. untouched n log (logged (ball b) 0) (λ last. fewer (sym (balls-told m log told) ∙ last))) (told .tickets);
+          (λ n. untouched n log (logged (ball b) 0) (ap nineteenIn (told .progress) ∙ waits)) (told .tickets);
       once = told .once;
       unissued = told .unissued;
     }
@@ -404,7 +401,7 @@ told-early m log b told early sheet =
 settled-ticket : (m : Model) (log : Log) (e : Logged) (b : ℕ) (lines : List Line) (awards : List ℕ) (t : Ticket)
     → effectIn e ≡ draws b
     → gameOf log ≡ m .game
-    → progressOf log .balls ≡ 19
+    → nineteenIn (progressOf log) ≡ true
     → awardNow b (t .number) log ≡ awardAt (t .number) lines awards
     → TicketTold (m .game) log t
     → TicketTold (m .game + 1) (e ∷ log) (awardedAt (m .game) lines awards t)
@@ -461,10 +458,10 @@ unfolding gameSettled effectIn effectOf progressOf progressAfter payments paymen
 told-settled m log b orderly told last sheet =
     let size : length (m .balls ++ (b ∷ [])) ≡ length (m .balls) + 1 = length-append (m .balls) (b ∷ []) in
     let twenty : length (m .balls ++ (b ∷ [])) ≡ 20 = eqb-true (length (m .balls ++ (b ∷ []))) 20 last in
-    let nineteen : length (m .balls) ≡ 19 = omega arith in
+    let completes : nineteenIn (progressFor m) ≡ true = eq-eqb (length (m .balls)) 19 (omega arith) in
     record {
       sheet = sheet;
-      progress = ap (λ (p : Progress). progressAfter p (draws b)) (told .progress) ∙ rw (eq-eqb (length (m .balls)) 19 nineteen);
+      progress = ap (λ (p : Progress). progressAfter p (draws b)) (told .progress) ∙ rw completes;
       tickets =
           subst⁻¹ (λ (us : List Ticket). All after (map (finishedOn (m .day) (m .game + 1)) us))
           (awarded-by-number (m .game) 1 (m .live) (orderly .numbers) awards (award-count m b))
@@ -472,7 +469,7 @@ told-settled m log b orderly told last sheet =
           (λ t. finished-day (m .game + 1) (withBall b log) t (isFinished (m .game + 1) t && eqb (t .finishedDay) 0) (m .day))
           (map (awardedAt (m .game) lines awards) (m .live))
           (All-map (TicketTold (m .game) log) after (awardedAt (m .game) lines awards)
-          (λ t. settled-ticket m log (logged (ball b) 0) b lines awards t refl (game-told m log told) (balls-told m log told ∙ nineteen)
+          (λ t. settled-ticket m log (logged (ball b) 0) b lines awards t refl (game-told m log told) (ap nineteenIn (told .progress) ∙ completes)
           (award (t .number))) (m .live) (told .tickets)));
       once = told .once;
       unissued = told .unissued;

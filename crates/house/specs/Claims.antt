@@ -60,13 +60,17 @@ pub record Progress : Type 0 where
   pub balls : ℕ
   pub issued : ℕ
 
+-- whether the next ball is the twentieth
+abbrev pub nineteenIn : Progress → Bool
+nineteenIn p = eqb (p .balls) 19
+
 -- the twentieth ball makes the next game current, without balls
 unfoldable pub progressAfter : Progress → Effect → Progress
 progressAfter p nothing = p
 progressAfter p (issues games) = record { game = p .game; balls = p .balls; issued = p .issued + 1 }
 progressAfter p (takesOff k) = p
 progressAfter p (draws b) =
-    cond (eqb (p .balls) 19)
+    cond (nineteenIn p)
     (record { game = p .game + 1; balls = 0; issued = p .issued })
     (record { game = p .game; balls = p .balls + 1; issued = p .issued })
 progressAfter p (pays k) = p
@@ -82,15 +86,15 @@ gameOf log = progressOf log .game
 abbrev pub nextOf : Log → ℕ
 nextOf log = cond (eqb (progressOf log .balls) 0) (gameOf log) (gameOf log + 1)
 
--- whether the next ball is the twentieth of a game
-abbrev pub twentiethOf : Log → ℕ → Bool
-twentiethOf log g = eqb (progressOf log .balls) 19 && eqb (gameOf log) g
+-- whether the next ball draws a game
+abbrev pub drawnNext : Log → ℕ → Bool
+drawnNext log g = nineteenIn (progressOf log) && eqb (gameOf log) g
 
 unfoldable pub drawnAfter : ℕ → Log → Bool → Effect → Bool
 drawnAfter g log before nothing = before
 drawnAfter g log before (issues games) = before
 drawnAfter g log before (takesOff k) = before
-drawnAfter g log before (draws b) = twentiethOf log g || before
+drawnAfter g log before (draws b) = drawnNext log g || before
 drawnAfter g log before (pays k) = before
 
 unfoldable pub drawn : Log → ℕ → Bool
@@ -139,7 +143,7 @@ awardAfter n g log before nothing = before
 awardAfter n g log before (issues games) = before
 awardAfter n g log before (takesOff k) = before
 awardAfter n g log before (draws b) =
-    cond (twentiethOf log g) (awardAt n (playing (sheetOf log)) (sheetSettlement b (sheetOf log) .awards)) before
+    cond (drawnNext log g) (awardAt n (playing (sheetOf log)) (sheetSettlement b (sheetOf log) .awards)) before
 awardAfter n g log before (pays k) = before
 
 unfoldable pub awardIn : ℕ → ℕ → Log → ℕ
