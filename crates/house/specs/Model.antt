@@ -5,7 +5,7 @@ use mathlib.Core.Bool.{Bool, not, cond}
 use mathlib.Core.List.{List, []}
 use lib.Dec.{eqb}
 use lib.ListN.{length}
-use Rattle.prizes.specs.Jackpots.{guaranteeOfSix, guaranteeOfEight, freshJackpot}
+use Rattle.prizes.specs.Jackpots.{guaranteeOfSix, guaranteeOfEight, freshSeeds, freshJackpot}
 use Rattle.prizes.specs.declared.jackpot.Jackpot.{Jackpot}
 pub use Rattle.house.specs.declared.state.Counters.{Counters}
 use Rattle.house.specs.Tickets.{Ticket}
@@ -42,7 +42,7 @@ fresh =
       live = [];
       six = freshJackpot guaranteeOfSix;
       eight = freshJackpot guaranteeOfEight;
-      counters = record { taken = 0; seeds = guaranteeOfSix + guaranteeOfEight; paid = 0; refunded = 0; unclaimed = 0; gained = 0; lost = 0 };
+      counters = record { taken = 0; seeds = freshSeeds; paid = 0; refunded = 0; unclaimed = 0; gained = 0; lost = 0 };
     }
 
 abbrev pub isDrawing : Model → Bool

@@ -1,7 +1,7 @@
 -- "The count sheet is fed each command with its operands and its answer's code, and nothing else from the house. It holds today, the game, its
 -- balls, the six pools, the two debts, the nine figures, and a line for each accepted Sell, numbered from 1. It starts as a fresh house does,
 -- with seeds and pooled 1,350,000 and the other figures 0. On a code other than 0 nothing on it changes." With the house it shares the rule book
--- (`rules`, with a sale's operands and the record of a jackpot's pools), the commands as they are given (Command) and the names of the nine
+-- (`sale` and `prizes`, with a sale's operands and the record of a jackpot's pools), the commands as they are given (Command) and the names of the nine
 -- figures (Figures), and no ticket, check or money move.
 use Prim.Native.Nat.{ℕ, zero, suc, _+_, _-_}
 use mathlib.Core.Bool.{Bool, cond, not, _&&_}
@@ -13,7 +13,7 @@ use Rattle.sale.specs.Lists.{sum, keep, member}
 use Rattle.sale.specs.Kinds.{kindOf}
 use Rattle.sale.specs.Price.{paidGames, charge}
 use Rattle.sale.specs.Checks.{Operands, wayCount, chargeOf}
-use Rattle.prizes.specs.Jackpots.{guaranteeOfSix, guaranteeOfEight, freshJackpot}
+use Rattle.prizes.specs.Jackpots.{guaranteeOfSix, guaranteeOfEight, freshSeeds, freshJackpot}
 use Rattle.prizes.specs.Settle.{Entry, Settled, settle}
 use Rattle.prizes.specs.Expiry.{hasExpired}
 use Rattle.prizes.specs.declared.jackpot.Jackpot.{Jackpot}
@@ -48,13 +48,13 @@ freshSheet =
       lines = [];
       figures = record {
         taken = 0;
-        seeds = 1350000;
+        seeds = freshSeeds;
         paid = 0;
         refunded = 0;
         owed = 0;
         held = 0;
         unclaimed = 0;
-        pooled = 1350000;
+        pooled = freshSeeds;
         gained = 0;
         lost = 0;
       };

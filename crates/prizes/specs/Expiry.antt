@@ -4,6 +4,10 @@ use Prim.Native.Nat.{ℕ, _+_}
 use mathlib.Core.Bool.{Bool}
 use lib.Dec.{ltb}
 
+-- those twelve months, in days
+abbrev pub claimDays : ℕ
+claimDays = 365
+
 -- whether those twelve months of a ticket that finished on the given day are over today
 unfoldable pub hasExpired : ℕ → ℕ → Bool
-hasExpired today finishingDay = ltb (finishingDay + 365) today
+hasExpired today finishingDay = ltb (finishingDay + claimDays) today

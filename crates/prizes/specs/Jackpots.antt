@@ -16,6 +16,10 @@ guaranteeOfSix = 100000
 abbrev pub guaranteeOfEight : ℕ
 guaranteeOfEight = 1250000
 
+-- what a fresh house has put into the two primaries: 1,350,000
+abbrev pub freshSeeds : ℕ
+freshSeeds = guaranteeOfSix + guaranteeOfEight
+
 -- the primary at its guarantee, and the same owed for it
 abbrev pub freshJackpot : ℕ → Jackpot
 freshJackpot guarantee =

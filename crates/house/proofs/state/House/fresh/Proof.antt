@@ -1,4 +1,4 @@
--- `house::state::House::fresh` meets its contract: no ticket and no ball is taken from the buffers, and the jackpots are as rules make them.
+-- `house::state::House::fresh` meets its contract: no ticket and no ball is taken from the buffers, and the jackpots are as the rule book makes them.
 use Rattle.sale.specs.Lists.{below}
 use Rattle.house.specs.View.{view}
 use borrow.Author.Needs.{needs}
