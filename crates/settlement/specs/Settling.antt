@@ -1,4 +1,4 @@
--- The parts of a game's settlement as the code goes through them, ticket by ticket over the live ones. Each figure of a settled game (rules'
+-- The parts of a game's settlement as the code goes through them, ticket by ticket over the live ones. Each figure of a settled game (the rule book's
 -- `settle`) is a list over the entries, which are the tickets that run in the game; here it is spread over all live tickets, 0 for the others.
 use Prim.Native.Nat.{ℕ, _+_, _<_, _^_}
 use mathlib.Core.Path.{_≡_}
