@@ -1,7 +1,8 @@
 // One round of the cut of a game's major prizes (rules 12.3 to 12.5).
 use crate::prize::MAJOR_FLOOR;
+use numbers::order::max_u64;
 ghost use mathlib.Core.Path.{_≡_};
-ghost use Prim.Native.Nat.{_+_, _*_, _-_, _/_, _%_, max};
+ghost use Prim.Native.Nat.{_+_, _*_, _-_, _/_, _%_};
 ghost use Rattle.prizes.specs.Bounds.{Payable, Cuttable, Divided};
 ghost use Rattle.prizes.specs.Rounds.{firstCut, uncut, payUnder, nextBelow};
 
@@ -82,9 +83,9 @@ impl Cut {
         let base = self.base;
         let part = self.shareable();
         if part == 0 {
-            return larger(below, base + 1);
+            return max_u64(below, base + 1);
         }
-        larger(below, rounded_up(base, part))
+        max_u64(below, rounded_up(base, part))
     }
 }
 
@@ -94,10 +95,4 @@ fn rounded_up(base: u64, part: u64) -> u64
     ensures { λ r. ⌜ r ≡ 20000 * (base / part) + (20000 * (base % part) + (part - 1)) / part ⌝ }
 {
     MAJOR_FLOOR * (base / part) + (MAJOR_FLOOR * (base % part) + (part - 1)) / part
-}
-
-fn larger(a: u64, b: u64) -> u64
-    ensures { λ r. ⌜ r ≡ max a b ⌝ }
-{
-    if a < b { b } else { a }
 }

@@ -7,14 +7,15 @@ use native.Mathlib.Numerals.{add-one}
 use native.Mathlib.Omega.{arith}
 use borrow.Author.Tests.{eqb-true, ne-eqb, lt-ltb, le-ltb}
 use lib.Dec.{eqb}
-use lib.ListN.{length, getD, drop, length-append, length-drop}
-use lib.Seq.{sets, sets-eq, take-at, drop-append-add, drop-drop}
+use lib.ListN.{length, getD, take, drop}
+use lib.Seq.{take-at, drop-append-add, drop-drop}
+use Rattle.numbers.specs.Bytes.{bytesOf}
 use Rattle.sale.specs.Lists.{keep, any, member, below}
 use Rattle.house.specs.Tickets.{Ticket}
 use Rattle.house.specs.Commands.{blankTicket}
 use Rattle.house.specs.View.{ticketIn, view}
 use Rattle.house.specs.Parts.{ComesWith}
-use Rattle.queries.specs.Listing.{fourBytes, listBytes, Listing}
+use Rattle.queries.specs.Listing.{listBytes, Listing}
 use Rattle.house.specs.declared.state.House.{House}
 use Rattle.house.proofs.Ledger.{All}
 use Rattle.house.proofs.RisingNumbers.{Rising, all-at}
@@ -77,21 +78,17 @@ module _ (h : House) (words : List ℕ) (comes : ComesWith h words) where
 -- ---- numbers written one after another
 
 length-bytes : (ns : List ℕ) → length (listBytes ns) ≡ 4 * length ns
-unfolding listBytes fourBytes
+unfolding listBytes bytesOf
 length-bytes [] = refl
 length-bytes (n ∷ ns) = omega (arith, length-bytes ns)
 
 bytes-append : (ns ks : List ℕ) → listBytes (ns ++ ks) ≡ listBytes ns ++ listBytes ks
 unfolding listBytes
 bytes-append [] ks = refl
-bytes-append (n ∷ ns) ks = ap (λ l. fourBytes n ++ l) (bytes-append ns ks) ∙ sym (append-assoc (fourBytes n) (listBytes ns) (listBytes ks))
+bytes-append (n ∷ ns) ks = ap (λ l. bytesOf 4 n ++ l) (bytes-append ns ks) ∙ sym (append-assoc (bytesOf 4 n) (listBytes ns) (listBytes ks))
 
-length-four : (n : ℕ) → length (fourBytes n) ≡ 4
-unfolding fourBytes
-length-four n = refl
-
-bytes-one : (n : ℕ) → listBytes (n ∷ []) ≡ fourBytes n
-unfolding listBytes fourBytes
+bytes-one : (n : ℕ) → listBytes (n ∷ []) ≡ bytesOf 4 n
+unfolding listBytes bytesOf
 bytes-one n = refl
 
 -- a buffer that begins with the numbers of the first rows
@@ -102,14 +99,14 @@ pub listed-none : (f : ℕ → ℕ) (out : List ℕ) → out ≡ listedTo f 0 ou
 unfolding listedTo below listBytes
 listed-none f out = refl
 
-module _ (f : ℕ → ℕ) (n : ℕ) (out : List ℕ) (room : 4 * n + 4 ≤ length out) where
+module _ (f : ℕ → ℕ) (n : ℕ) (out : List ℕ) where
   abbrev head : List ℕ
   head = listBytes (map f (below n))
 
   head-length : length head ≡ 4 * n
   head-length = length-bytes (map f (below n)) ∙ ap (λ k. 4 * k) (length-table f n)
 
-  head-more : listBytes (map f (below (n + 1))) ≡ head ++ fourBytes (f n)
+  head-more : listBytes (map f (below (n + 1))) ≡ head ++ bytesOf 4 (f n)
   unfolding below
   head-more =
       ap (λ k. listBytes (map f (below k))) (add-one n)
@@ -126,17 +123,13 @@ module _ (f : ℕ → ℕ) (n : ℕ) (out : List ℕ) (room : 4 * n + 4 ≤ leng
       ∙ drop-drop 4 (4 * n) out
       ∙ ap (λ k. drop k out) next
 
-  pub listed-more : sets (listedTo f n out) (n * 4) (fourBytes (f n)) ≡ listedTo f (n + 1) out
+  pub listed-more :
+      take (n * 4) (listedTo f n out) ++ bytesOf 4 (f n) ++ drop (n * 4 + 4) (listedTo f n out) ≡ listedTo f (n + 1) out
   unfolding listedTo
   listed-more =
-      let four : length (fourBytes (f n)) ≡ 4 = length-four (f n) in
-      let long : length (head ++ drop (4 * n) out) ≡ 4 * n + (length out - 4 * n) =
-      length-append head (drop (4 * n) out) ∙ omega (arith, head-length, length-drop (4 * n) out) in
-      sets-eq (fourBytes (f n)) (head ++ drop (4 * n) out) (n * 4) (omega arith)
-      ∙ ap (λ l. l ++ fourBytes (f n) ++ drop (n * 4 + length (fourBytes (f n))) (head ++ drop (4 * n) out))
+      ap (λ l. l ++ bytesOf 4 (f n) ++ drop (n * 4 + 4) (head ++ drop (4 * n) out))
       (take-at head (drop (4 * n) out) (n * 4) (omega (arith, head-length)))
-      ∙ ap (λ k. head ++ fourBytes (f n) ++ drop (n * 4 + k) (head ++ drop (4 * n) out)) four
-      ∙ ap (λ l. head ++ fourBytes (f n) ++ l) rest-more
+      ∙ ap (λ l. head ++ bytesOf 4 (f n) ++ l) rest-more
       ∙ ap (λ l. l ++ drop (4 * (n + 1)) out) (sym head-more)
 
 -- ---- the list asked for

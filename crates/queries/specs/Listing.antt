@@ -1,22 +1,19 @@
 -- "The live list writes each live ticket's number once, 4 bytes each, into a lent buffer and answers how many; its order is free, and bytes
 -- beyond are untouched. [..] 30 buffer under 4 × live tickets".
-use Prim.Native.Nat.{ℕ, _*_, _/_, _%_}
+use Prim.Native.Nat.{ℕ, _*_}
 use mathlib.Core.Path.{_≡_}
 use mathlib.Core.Bool.{cond}
 use mathlib.Core.List.{List, [], _∷_, _++_, map}
 use lib.Dec.{ltb, eqb}
 use lib.ListN.{length, drop}
+use Rattle.numbers.specs.Bytes.{bytesOf}
 use Rattle.sale.specs.Lists.{keep, member}
 use Rattle.house.specs.Model.{Model}
 use Rattle.queries.specs.declared.live_list.Listed.{Listed}
 
--- a number below 2^32, high byte first
-unfoldable pub fourBytes : ℕ → List ℕ
-fourBytes n = n / 16777216 ∷ n / 65536 % 256 ∷ n / 256 % 256 ∷ n % 256 ∷ []
-
 unfoldable pub listBytes : List ℕ → List ℕ
 listBytes [] = []
-listBytes (n ∷ ns) = fourBytes n ++ listBytes ns
+listBytes (n ∷ ns) = bytesOf 4 n ++ listBytes ns
 
 -- the buffer after the list was written: it begins with some numbers, as many as there are live tickets, and the rest is as before
 pub record Written (m : Model) (before after : List ℕ) : Type 0 where

@@ -1,31 +1,20 @@
 // The live list: the live tickets' numbers in a lent buffer. Any order will do; they are written in rising number, as the rows stand.
 use house::state::House;
+use numbers::bytes::write_u32;
 ghost use mathlib.Core.Path.{_≡_};
 ghost use mathlib.Core.List.{List, map, _++_};
-ghost use Prim.Native.Nat.{ℕ, _+_, _*_, _≤_, _<_, _^_};
+ghost use Prim.Native.Nat.{ℕ, _*_, _≤_, _<_, _^_};
 ghost use lib.ListN.{length, drop, getD};
-ghost use lib.Seq.{sets};
 ghost use Rattle.sale.specs.Lists.{below};
 ghost use Rattle.house.specs.View.{view};
 ghost use Rattle.house.specs.Parts.{ComesWith};
-ghost use Rattle.queries.specs.Listing.{fourBytes, listBytes, Listing};
+ghost use Rattle.queries.specs.Listing.{listBytes, Listing};
 
 // 0 with the number of live tickets, or the refusal's number.
 #[repr(C)]
 pub struct Listed {
     pub code: u8,
     pub count: u32,
-}
-
-// A number in four bytes, high byte first.
-fn write_number(out: &mut [u8], at: usize, number: u64)
-    requires { ⌜ (at + 4 ≤ length (now out)) × (number < 2 ^ 32) ⌝ }
-    ensures { λ r. ⌜ now (out .exit) ≡ sets (now (out .entry)) at (fourBytes number) ⌝ }
-{
-    out[at] = (number / 16777216 % 256) as u8;
-    out[at + 1] = (number / 65536 % 256) as u8;
-    out[at + 2] = (number / 256 % 256) as u8;
-    out[at + 3] = (number % 256) as u8;
 }
 
 // The numbers of the first tickets, one after another.
@@ -36,7 +25,7 @@ fn write_numbers(rows: &[u64; 3200], live: usize, out: &mut [u8])
     let mut i = 0;
     while i < live {
         let at = i * 16;
-        write_number(out, i * 4, rows[at]);
+        write_u32(out, i * 4, rows[at] as u32);
         i += 1;
     }
 }

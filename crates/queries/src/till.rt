@@ -1,6 +1,8 @@
 // What can be read off the house: the nine figures of the till, and the jackpots' pools.
 use house::rows::read_row;
 use house::state::House;
+use numbers::order::max_u64;
+use numbers::order::min_u64;
 use prizes::jackpot::Jackpot;
 ghost use mathlib.Core.Path.{_≡_};
 ghost use mathlib.Core.List.{List};
@@ -44,18 +46,6 @@ pub fn pools_of(house: House) -> Pools
     Pools { six, eight }
 }
 
-fn lesser(a: u64, b: u64) -> u64
-    ensures { λ r. ⌜ r ≡ min a b ⌝ }
-{
-    if a < b { a } else { b }
-}
-
-fn greater(a: u64, b: u64) -> u64
-    ensures { λ r. ⌜ r ≡ max a b ⌝ }
-{
-    if a < b { b } else { a }
-}
-
 // The six pools together.
 fn pooled_in(six: Jackpot, eight: Jackpot) -> u64
     requires { ⌜ pooled six + pooled eight < 2 ^ 62 ⌝ }
@@ -78,8 +68,8 @@ fn stakes_between(stake: u64, ways: u64, free: u64, from: u64, upto: u64) -> u64
     requires { ⌜ charge stake ways (min upto free - min from free) ≤ chargeLimit ⌝ }
     ensures { λ r. ⌜ r ≡ charge stake ways (min upto free - min from free) ⌝ }
 {
-    let start = lesser(from, free);
-    let end = lesser(upto, free);
+    let start = min_u64(from, free);
+    let end = min_u64(upto, free);
     if end <= start {
         return 0;
     }
@@ -92,7 +82,7 @@ fn held_at(rows: &[u64; 3200], i: usize, game: u64) -> u64
     ensures { λ r. ⌜ ((marks : List ℕ) → r ≡ heldFor game (ticketIn (now (rows .entry)) marks i)) ⌝ }
 {
     let row = read_row(rows, i);
-    let from = greater(row.first, game);
+    let from = max_u64(row.first, game);
     stakes_between(row.stake, row.ways, row.free, from, row.stop)
 }
 

@@ -7,14 +7,15 @@ use mathlib.Core.Bool.{Bool, true, false, cond, not}
 use mathlib.Core.List.{List, [], _∷_}
 use lib.Dec.{ltb, eqb}
 use lib.ListN.{length, getD, take, drop, length-drop}
-use lib.Seq.{drop-cons}
+use lib.Seq.{drop-cons, drop-drop}
 use borrow.Author.Tests.{ltb-false, lt-ltb, le-ltb, ne-eqb}
 use Rattle.sale.specs.Checks.{operandsOf}
 use Rattle.house.specs.Commands.{open′, sell, cancel, ball, claim, expire, transfer}
 use Rattle.commands.specs.Meant.{meant}
 use Rattle.commands.specs.declared.command.Command.{Command}
 use Rattle.commands.specs.declared.command.Command.the-variants.{Open, Sell, Cancel, Ball, Claim, Expire, Transfer}
-use Rattle.roll.specs.Bytes.{numberOf}
+use Rattle.numbers.specs.Bytes.{numberOf}
+use Rattle.numbers.proofs.ByteLaws.{part-of-first, byte-of-part}
 use Rattle.roll.specs.Decode.{isKnown, operandBytes, saleIn, marksIn, commandOf}
 use Rattle.roll.specs.Orders.{orderOf, lentMarks, decodedAt}
 use Rattle.roll.specs.declared.decode.Decoded.the-variants.{Whole, Stop}
@@ -49,6 +50,27 @@ other-order byte bytes none =
       ne-eqb byte 5 (none .0 .1),
       ne-eqb byte 6 (none .1),
     )
+
+-- ---- Sell's operands
+
+-- Sell's operands up to the marks, from where they start in a list
+pub sale-in :
+    (l : List ℕ) (at stake : ℕ)
+    → stake ≡ numberOf (take 4 (drop (at + 2) l))
+    → record { kind = getD l at 0; games = getD l (at + 1) 0; stake = stake; groups = getD l (at + 6) 0; types = getD l (at + 7) 0 }
+    ≡ saleIn (take 88 (drop at l))
+sale-in l at stake same =
+    let here : at ≡ at + 0 = omega arith in
+    let kind = ap (λ k. getD l k 0) here ∙ sym (byte-of-part 88 l at 0 (omega arith)) in
+    let four = same ∙ ap numberOf (sym (part-of-first 2 4 88 (drop at l) (omega arith) ∙ ap (take 4) (drop-drop 2 at l))) in
+    λ i.
+    record {
+      kind = kind i;
+      games = sym (byte-of-part 88 l at 1 (omega arith)) i;
+      stake = four i;
+      groups = sym (byte-of-part 88 l at 6 (omega arith)) i;
+      types = sym (byte-of-part 88 l at 7 (omega arith)) i;
+    }
 
 -- ---- what stands at a place
 

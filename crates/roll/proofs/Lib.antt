@@ -1,4 +1,4 @@
-pub mod ByteLaws
+pub mod RecordLaws
 pub mod DecodeLaws
 pub mod AnswerBounds
 pub mod ReadingLaws

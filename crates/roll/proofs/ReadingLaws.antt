@@ -16,7 +16,7 @@ use Rattle.house.specs.Commands.{step}
 use Rattle.commands.specs.Meant.{meant}
 use Rattle.house.specs.declared.answer.Answer.{Answer}
 use Rattle.commands.specs.declared.command.Command.{Command}
-use Rattle.roll.specs.Bytes.{bytesOf}
+use Rattle.numbers.specs.Bytes.{bytesOf}
 use Rattle.roll.specs.Decode.{isKnown, operandBytes, commandOf, recordOf}
 use Rattle.roll.specs.Reading.{Reading, stopped, answered, readTurns, readRoll, AllRefused}
 use Rattle.roll.specs.Orders.{orderOf, lentMarks, decodedAt, verdictOf}

@@ -15,11 +15,12 @@ use Rattle.house.specs.Commands.{Command, sell, cancel, ball, claim, expire, tr
 use Rattle.house.specs.Balance.{State, next, runFrom, Reached}
 use Rattle.house.proofs.Refusals.{and-true}
 use Rattle.house.proofs.Theorem.{till-balances, reached-step}
-use Rattle.roll.specs.Bytes.{numberOf}
+use Rattle.numbers.specs.Bytes.{numberOf}
 use Rattle.roll.specs.Decode.{isKnown, operandBytes, saleIn, marksIn, commandOf, byteOf, recordOf}
 use Rattle.roll.specs.Reading.{Reading, stopped, readTurns, readRoll}
 use Rattle.roll.specs.Balance.{Sitting, houseAfter, answeredIn, entriesTo, entriesFrom, entriesIn, RollsBalance}
-use Rattle.roll.proofs.ByteLaws.{two-bytes-below, entry-back, record-passed}
+use Rattle.numbers.proofs.ByteLaws.{two-bytes-below}
+use Rattle.roll.proofs.RecordLaws.{entry-back, record-passed}
 use Rattle.roll.proofs.AnswerBounds.{ShortDay, answer-shown}
 use Rattle.roll.proofs.ReadingLaws.{answeredBy}
 

@@ -7,7 +7,7 @@ use Rattle.house.specs.Model.{Model, fresh}
 use Rattle.house.specs.Commands.{Command, step}
 use Rattle.house.specs.declared.answer.Answer.{Answer}
 use Rattle.house.specs.Balance.{run, TillBalances}
-use Rattle.roll.specs.Bytes.{numberOf}
+use Rattle.numbers.specs.Bytes.{numberOf}
 use Rattle.roll.specs.Decode.{byteOf}
 use Rattle.roll.specs.Reading.{readRoll}
 

@@ -10,7 +10,7 @@ use Rattle.sale.specs.Checks.{operandsOf}
 use Rattle.sale.specs.declared.terms.Sale.{Sale}
 use Rattle.house.specs.Commands.{Command, open′, sell, cancel, ball, claim, expire, transfer}
 use Rattle.house.specs.declared.answer.Answer.{Answer}
-use Rattle.roll.specs.Bytes.{numberOf, bytesOf}
+use Rattle.numbers.specs.Bytes.{numberOf, bytesOf}
 
 abbrev pub isKnown : ℕ → Bool
 isKnown byte = leb 1 byte && leb byte 7

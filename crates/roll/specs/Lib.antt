@@ -1,4 +1,3 @@
-pub mod Bytes
 pub mod Decode
 pub mod Reading
 pub mod Balance

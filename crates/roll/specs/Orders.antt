@@ -10,7 +10,7 @@ use Rattle.commands.specs.declared.command.Command.the-variants.{Open, Sell, Ca
 use Rattle.house.specs.declared.answer.Answer.{Answer}
 use Rattle.house.specs.declared.state.House.{House}
 use Rattle.house.specs.View.{view}
-use Rattle.roll.specs.Bytes.{numberOf}
+use Rattle.numbers.specs.Bytes.{numberOf}
 use Rattle.roll.specs.Decode.{isKnown, operandBytes, saleIn, marksIn}
 use Rattle.roll.specs.Reading.{Reading, readRoll, AllRefused}
 use Rattle.roll.specs.declared.decode.Decoded.{Decoded}

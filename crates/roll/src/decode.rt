@@ -1,10 +1,11 @@
 // Decoding: the command that stands at a place of a roll.
 use commands::command::Command;
+use numbers::bytes::read_u16;
+use numbers::bytes::read_u32;
 use sale::terms::Sale;
 ghost use mathlib.Core.Path.{_≡_};
 ghost use Prim.Native.Nat.{_+_, _≤_};
 ghost use lib.ListN.{length, take, drop};
-ghost use Rattle.roll.specs.Bytes.{numberOf};
 ghost use Rattle.roll.specs.Decode.{isKnown, operandBytes, saleIn};
 ghost use Rattle.roll.specs.Orders.{orderOf, decodedAt};
 
@@ -14,28 +15,12 @@ pub enum Decoded {
     Stop(u8),
 }
 
-fn two_bytes(roll: &[u8], at: usize) -> u16
-    requires { ⌜ at + 2 ≤ length (now roll) ⌝ }
-    ensures { λ r. ⌜ r ≡ numberOf (take 2 (drop at (now (roll .entry)))) ⌝ }
-{
-    (roll[at] as u16) * 256 + (roll[at + 1] as u16)
-}
-
-fn four_bytes(roll: &[u8], at: usize) -> u32
-    requires { ⌜ at + 4 ≤ length (now roll) ⌝ }
-    ensures { λ r. ⌜ r ≡ numberOf (take 4 (drop at (now (roll .entry)))) ⌝ }
-{
-    let high = two_bytes(roll, at) as u32;
-    let low = two_bytes(roll, at + 2) as u32;
-    high * 65536 + low
-}
-
 // Sell's operands up to the marks.
 fn sale_at(roll: &[u8], at: usize) -> Sale
     requires { ⌜ at + 88 ≤ length (now roll) ⌝ }
     ensures { λ r. ⌜ r ≡ saleIn (take 88 (drop at (now (roll .entry)))) ⌝ }
 {
-    let stake = four_bytes(roll, at + 2);
+    let stake = read_u32(roll, at + 2);
     Sale {
         kind: roll[at],
         games: roll[at + 1],
@@ -66,13 +51,13 @@ fn order_at(byte: u8, roll: &[u8], at: usize) -> Command
     ensures { λ r. ⌜ r ≡ orderOf byte (take (operandBytes byte) (drop at (now (roll .entry)))) ⌝ }
 {
     match byte {
-        1 => Command::Open(two_bytes(roll, at)),
+        1 => Command::Open(read_u16(roll, at)),
         2 => Command::Sell(sale_at(roll, at)),
-        3 => Command::Cancel(four_bytes(roll, at)),
+        3 => Command::Cancel(read_u32(roll, at)),
         4 => Command::Ball(roll[at]),
-        5 => Command::Claim(four_bytes(roll, at)),
+        5 => Command::Claim(read_u32(roll, at)),
         6 => Command::Expire,
-        _ => Command::Transfer(roll[at], four_bytes(roll, at + 1)),
+        _ => Command::Transfer(roll[at], read_u32(roll, at + 1)),
     }
 }
 

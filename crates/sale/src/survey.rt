@@ -3,10 +3,12 @@
 use crate::terms::Kind;
 use crate::terms::Schedule;
 use crate::ways;
+use numbers::order::max_u32;
+use numbers::order::min_u32;
 ghost use mathlib.Core.Path.{_≡_};
 ghost use mathlib.Core.Bool.{true, cond};
 ghost use mathlib.Core.List.{List, [], _∷_};
-ghost use Prim.Native.Nat.{ℕ, min, max};
+ghost use Prim.Native.Nat.{ℕ};
 ghost use lib.ListN.{length};
 ghost use lib.Count.{ones};
 ghost use Rattle.sale.specs.Kinds.{within, sizesFit};
@@ -32,18 +34,6 @@ fn known_places(table: &[u32; 3])
 
 fn lent_places(_: &[u32]) {}
 
-fn smaller(a: u32, b: u32) -> u32
-    ensures { λ r. ⌜ r ≡ min a b ⌝ }
-{
-    if a < b { a } else { b }
-}
-
-fn larger(a: u32, b: u32) -> u32
-    ensures { λ r. ⌜ r ≡ max a b ⌝ }
-{
-    if a < b { b } else { a }
-}
-
 // Takes in a way, which selects `size` numbers.
 fn note_way(size: u32, table: &mut [u32; 3])
     requires { ⌜ Unfilled (size ∷ []) (now table) ⌝ }
@@ -53,8 +43,8 @@ fn note_way(size: u32, table: &mut [u32; 3])
     let least = table[1];
     let most = table[2];
     table[0] += 1;
-    table[1] = smaller(least, size);
-    table[2] = larger(most, size);
+    table[1] = min_u32(least, size);
+    table[2] = max_u32(most, size);
 }
 
 // Takes in a mask of groups, which is a way or none. It selects `size` numbers.

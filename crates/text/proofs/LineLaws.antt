@@ -5,9 +5,9 @@ use mathlib.Core.Path.{_≡_, refl, sym, ap, _∙_}
 use mathlib.Core.Bool.{Bool, true, false}
 use mathlib.Core.List.{List, [], _∷_, _++_, append-assoc, append-nil}
 use lib.ListN.{length, getD, take, drop, length-append}
-use lib.Seq.{drop-drop, getD-drop, drop-cons}
+use lib.Seq.{drop-drop, getD-drop}
 use Rattle.queries.specs.declared.till.Till.{Till}
-use Rattle.roll.specs.Bytes.{numberFrom, numberOf}
+use Rattle.numbers.specs.Bytes.{numberOf}
 use Rattle.text.specs.Lines.{line, figure, fourFigures, answerLine, recordLine, bookLines, stopLine, signed, tillLine}
 use Rattle.text.proofs.DecimalLaws.{decimal-long, figure-long, four-long}
 
@@ -105,26 +105,6 @@ till-long t fits =
     )
 
 -- ---- a book
-
--- eight bytes by two halves
-pub eight-bytes-at :
-    (l : List ℕ) (at : ℕ)
-    → at + 8 ≤ length l
-    → numberOf (take 8 (drop at l)) ≡ numberOf (take 4 (drop at l)) * 4294967296 + numberOf (take 4 (drop (at + 4) l))
-unfolding numberFrom
-eight-bytes-at l at within =
-    rw (
-      ← drop-drop 4 at l,
-      drop-cons l at 0 (omega arith),
-      drop-cons l (suc at) 0 (omega arith),
-      drop-cons l (suc (suc at)) 0 (omega arith),
-      drop-cons l (suc (suc (suc at))) 0 (omega arith),
-      drop-cons l (suc (suc (suc (suc at)))) 0 (omega arith),
-      drop-cons l (suc (suc (suc (suc (suc at))))) 0 (omega arith),
-      drop-cons l (suc (suc (suc (suc (suc (suc at)))))) 0 (omega arith),
-      drop-cons l (suc (suc (suc (suc (suc (suc (suc at))))))) 0 (omega arith),
-    )
-    (omega arith)
 
 -- the record at a place, from the whole book
 pub record-as :

@@ -7,7 +7,7 @@ use mathlib.Core.List.{List, [], _∷_, _++_}
 use lib.Dec.{ltb}
 use lib.ListN.{length, getD, take, drop}
 use Rattle.queries.specs.declared.till.Till.{Till}
-use Rattle.roll.specs.Bytes.{numberOf}
+use Rattle.numbers.specs.Bytes.{numberOf}
 
 -- the decimal digits of a number that has at most so many
 unfoldable pub digitsWithin : ℕ → ℕ → List ℕ

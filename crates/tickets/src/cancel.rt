@@ -9,11 +9,13 @@ use house::rows::is_finished;
 use house::rows::read_row;
 use house::rows::remove_ticket;
 use house::state::House;
+use numbers::order::max_u64;
+use numbers::order::min_u64;
 use sale::price::charge_of;
 ghost use mathlib.Core.Path.{_≡_};
 ghost use mathlib.Core.Bool.{not, _&&_, _||_};
 ghost use mathlib.Core.List.{List};
-ghost use Prim.Native.Nat.{ℕ, _+_, _^_, _≤_, _<_, min, max};
+ghost use Prim.Native.Nat.{ℕ, _+_, _^_, _≤_, _<_};
 ghost use lib.Dec.{ltb, leb, eqb};
 ghost use lib.ListN.{take};
 ghost use Rattle.sale.specs.Checks.{firstMet};
@@ -24,18 +26,6 @@ ghost use Rattle.house.specs.Balance.{Reached};
 ghost use Rattle.house.specs.View.{marksAt, ticketFrom, ticketsOf, view};
 ghost use Rattle.house.specs.Parts.{Carried};
 ghost use Rattle.tickets.specs.Steps.{cancelRows, replaced};
-
-fn larger(a: u64, b: u64) -> u64
-    ensures { λ r. ⌜ r ≡ max a b ⌝ }
-{
-    if a < b { b } else { a }
-}
-
-fn smaller(a: u64, b: u64) -> u64
-    ensures { λ r. ⌜ r ≡ min a b ⌝ }
-{
-    if a < b { a } else { b }
-}
 
 // Whether a ticket of 50 games or more has begun.
 fn keno_to_go_begun(game: u64, drawn: u64, games: u64, first: u64) -> bool
@@ -74,7 +64,7 @@ fn refund(row: Row, stop: u64) -> u64
     requires { ⌜ (stop ≤ row .stop) × (row .free ≤ stop + 100) × (row .ways ≤ 255) × (row .stake < 2 ^ 32) ⌝ }
     ensures { λ r. ⌜ ((marks : List ℕ) → r ≡ paidStakes stop (row .stop) (ticketFrom row marks)) ⌝ }
 {
-    let paid = smaller(row.stop, row.free) - smaller(stop, row.free);
+    let paid = min_u64(row.stop, row.free) - min_u64(stop, row.free);
     charge_of(row.stake as u32, row.ways as u32, paid as u8)
 }
 
@@ -139,7 +129,7 @@ pub fn cancel_ticket(
     }
     let place = found.place;
     let row = read_row(rows, place);
-    let stop = larger(row.first, house.first_game());
+    let stop = max_u64(row.first, house.first_game());
     let code = cancel_code(house, row, stop);
     if code != 0 {
         return refused(house, code);

@@ -1,11 +1,11 @@
 -- `queries::live_list::write_numbers` meets its contract: each turn writes one number more behind the others.
-use Prim.Native.Nat.{_-_, _*_, _≤_}
+use Prim.Native.Nat.{_+_, _-_, _*_, _≤_}
 use mathlib.Core.Path.{_≡_, refl, ap, _∙_}
 use native.Mathlib.Omega.{arith}
 use borrow.Author.Needs.{needs}
-use lib.ListN.{length}
-use lib.Seq.{sets, length-sets}
-use Rattle.queries.specs.Listing.{fourBytes}
+use mathlib.Core.List.{_++_}
+use lib.ListN.{length, take, drop}
+use Rattle.numbers.specs.Bytes.{bytesOf}
 use Rattle.queries.proofs.ListingLaws.{numberAt, listedTo, listed-none, listed-more}
 use Rattle.queries.proofs.live_list.write_numbers.Statement.{statement}
 use Rattle.queries.proofs.live_list.write_numbers.Tie as tie
@@ -22,20 +22,26 @@ loop-holds c = (omega arith, refl, listed-none (numberAt (c .before .args .rows 
 mul-at : tie.Need-mul-at Inv-loop μ-loop
 mul-at c = search needs
 
-mul-write-number : tie.Need-mul-write-number Inv-loop μ-loop
-mul-write-number c = search needs
+mul-write-u32 : tie.Need-mul-write-u32 Inv-loop μ-loop
+mul-write-u32 c = search needs
 
-mul-write-number-2 : tie.Need-mul-write-number-2 Inv-loop μ-loop
-mul-write-number-2 c = search needs
+mul-write-u32-2 : tie.Need-mul-write-u32-2 Inv-loop μ-loop
+mul-write-u32-2 c = search needs
 
-element-copy-out-write-number : tie.Need-element-copy-out-write-number Inv-loop μ-loop
-element-copy-out-write-number c = search needs
+element-copy-out-write-u32 : tie.Need-element-copy-out-write-u32 Inv-loop μ-loop
+element-copy-out-write-u32 c = search needs
 
-write-number-requires : tie.Need-write-number-requires Inv-loop μ-loop
-write-number-requires c κs =
+cast-write-u32 : tie.Need-cast-write-u32 Inv-loop μ-loop
+cast-write-u32 c =
     let start = c .before .before .before .before .before in
     let turn = c .before .before .before .loop in
-    (omega (arith, turn .inv, start .pre), start .pre .2 (turn .i) (omega arith))
+    record { fits = start .pre .2 (turn .i) (omega arith) }
+
+write-u32-requires : tie.Need-write-u32-requires Inv-loop μ-loop
+write-u32-requires c κs =
+    let start = c .before .before .before .before .before in
+    let turn = c .before .before .before .loop in
+    omega (arith, turn .inv, start .pre)
 
 add-i : tie.Need-add-i Inv-loop μ-loop
 add-i c = search needs
@@ -48,12 +54,12 @@ loop-again c =
     let start = c .before .before .before .before .before .before .before .before in
     let args = start .args in
     let turn = c .before .before .before .before .before .before .loop in
-    let after : c .before .before .write-number .last .0 ≡ sets (turn .out) (turn .i * 4) (fourBytes (numberAt (args .rows .now) (turn .i))) = c .before .before .write-number .ensures in (
+    let put = c .before .before .write-u32 in (
       omega arith,
-      ap length after ∙ length-sets (turn .out) (turn .i * 4) (fourBytes (numberAt (args .rows .now) (turn .i))) ∙ turn .inv .1,
-      after
-          ∙ ap (λ l. sets l (turn .i * 4) (fourBytes (numberAt (args .rows .now) (turn .i)))) (turn .inv .2)
-          ∙ listed-more (numberAt (args .rows .now)) (turn .i) (args .out .now) (omega arith),
+      put .kept .0 ∙ turn .inv .1,
+      put .ensures
+          ∙ ap (λ l. take (turn .i * 4) l ++ bytesOf 4 (numberAt (args .rows .now) (turn .i)) ++ drop (turn .i * 4 + 4) l) (turn .inv .2)
+          ∙ listed-more (numberAt (args .rows .now)) (turn .i) (args .out .now),
     )
 
 same-length : tie.Need-same-length Inv-loop μ-loop
@@ -75,10 +81,11 @@ write-numbers-spec =
     μ-loop
     loop-holds
     mul-at
-    mul-write-number
-    mul-write-number-2
-    element-copy-out-write-number
-    write-number-requires
+    mul-write-u32
+    mul-write-u32-2
+    element-copy-out-write-u32
+    cast-write-u32
+    write-u32-requires
     add-i
     loop-less
     loop-again

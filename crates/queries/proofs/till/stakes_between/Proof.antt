@@ -9,11 +9,11 @@ use Rattle.house.proofs.SpanLaws.{charge-none}
 use Rattle.queries.proofs.till.stakes_between.Statement.{statement}
 use Rattle.queries.proofs.till.stakes_between.Tie as tie
 
-lesser-requires : tie.Need-lesser-requires
-lesser-requires c κs = search needs
+min-u64-requires : tie.Need-min-u64-requires
+min-u64-requires c κs = search needs
 
-lesser-requires-2 : tie.Need-lesser-requires-2
-lesser-requires-2 c κs = search needs
+min-u64-requires-2 : tie.Need-min-u64-requires-2
+min-u64-requires-2 c κs = search needs
 
 returns : tie.Need-returns
 returns c =
@@ -35,9 +35,9 @@ sub-result : tie.Need-sub-result
 sub-result c = search needs
 
 -- what is multiplied is what the contract says
-all-stakes : (c : tie.Else1) → c .before .before .before .args .stake * c .before .before .before .args .ways * (c .before .lesser2 .result - c .before .before .lesser .result) ≡ charge (c .before .before .before .args .stake) (c .before .before .before .args .ways) (min (c .before .before .before .args .upto) (c .before .before .before .args .free) - min (c .before .before .before .args .from) (c .before .before .before .args .free))
+all-stakes : (c : tie.Else1) → c .before .before .before .args .stake * c .before .before .before .args .ways * (c .before .min-u642 .result - c .before .before .min-u64 .result) ≡ charge (c .before .before .before .args .stake) (c .before .before .before .args .ways) (min (c .before .before .before .args .upto) (c .before .before .before .args .free) - min (c .before .before .before .args .from) (c .before .before .before .args .free))
 unfolding charge
-all-stakes c = rw (c .before .lesser2 .ensures, c .before .before .lesser .ensures)
+all-stakes c = rw (c .before .min-u642 .ensures, c .before .before .min-u64 .ensures)
 
 mul-result-2 : tie.Need-mul-result-2
 mul-result-2 c = omega (arith, all-stakes c, c .before .before .before .pre)
@@ -49,8 +49,8 @@ pub stakes-between-spec : {M : Type 1} → statement M
 stakes-between-spec =
     tie.close
     (tie.spec
-    lesser-requires
-    lesser-requires-2
+    min-u64-requires
+    min-u64-requires-2
     returns
     mul-result
     sub-result

@@ -1,14 +1,14 @@
 -- `roll::decode::sale_at` meets its contract: each field is its byte or bytes of the part.
 use borrow.Author.Needs.{needs}
-use Rattle.roll.proofs.ByteLaws.{sale-in}
+use Rattle.roll.proofs.DecodeLaws.{sale-in}
 use Rattle.roll.proofs.decode.sale_at.Statement.{statement}
 use Rattle.roll.proofs.decode.sale_at.Tie as tie
 
-add-four-bytes : tie.Need-add-four-bytes
-add-four-bytes c = search needs
+add-read-u32 : tie.Need-add-read-u32
+add-read-u32 c = search needs
 
-four-bytes-requires : tie.Need-four-bytes-requires
-four-bytes-requires c κs = search needs
+read-u32-requires : tie.Need-read-u32-requires
+read-u32-requires c κs = search needs
 
 shared-slice-read-t6 : tie.Need-shared-slice-read-t6
 shared-slice-read-t6 c = search needs
@@ -34,15 +34,15 @@ shared-slice-read-t14 c = search needs
 returns : tie.Need-returns
 returns c =
     let start = c .before .before .before .before .before .before in
-    sale-in (start .args .roll .now) (start .args .at) (c .before .before .before .before .four-bytes .result)
-    (c .before .before .before .before .four-bytes .ensures)
+    sale-in (start .args .roll .now) (start .args .at) (c .before .before .before .before .read-u32 .result)
+    (c .before .before .before .before .read-u32 .ensures)
 
 pub sale-at-spec : {M : Type 1} → statement M
 sale-at-spec =
     tie.close
     (tie.spec
-    add-four-bytes
-    four-bytes-requires
+    add-read-u32
+    read-u32-requires
     shared-slice-read-t6
     add-t4
     shared-slice-read-t8

@@ -8,7 +8,7 @@ use borrow.Author.Needs.{needs}
 use borrow.Author.Tests.{ne-eqb}
 use Rattle.roll.specs.Decode.{operandBytes}
 use Rattle.roll.specs.Orders.{lentMarks}
-use Rattle.roll.proofs.ByteLaws.{part-of-first}
+use Rattle.numbers.proofs.ByteLaws.{part-of-first}
 use Rattle.roll.proofs.reader.marks_of.Statement.{statement}
 use Rattle.roll.proofs.reader.marks_of.Tie as tie
 

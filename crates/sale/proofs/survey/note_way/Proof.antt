@@ -25,14 +25,14 @@ add-table c = search needs
 element-write-table : tie.Need-element-write-table
 element-write-table c = search needs
 
-smaller-requires : tie.Need-smaller-requires
-smaller-requires c κs = search needs
+min-u32-requires : tie.Need-min-u32-requires
+min-u32-requires c κs = search needs
 
 element-write-table-2 : tie.Need-element-write-table-2
 element-write-table-2 c = search needs
 
-larger-requires : tie.Need-larger-requires
-larger-requires c κs = search needs
+max-u32-requires : tie.Need-max-u32-requires
+max-u32-requires c κs = search needs
 
 element-write-table-3 : tie.Need-element-write-table-3
 element-write-table-3 c = search needs
@@ -43,7 +43,7 @@ returns c =
     let known = c .before .before .before .before .before in
     let table = start .args .table .now in
     stored table (known .known-places .ensures) _ _ _
-    ∙ (λ i. record { count = getD table 0 0 + 1; least = c .before .smaller .ensures i; most = c .larger .ensures i })
+    ∙ (λ i. record { count = getD table 0 0 + 1; least = c .before .min-u32 .ensures i; most = c .max-u32 .ensures i })
 
 pub note-way-spec : {M : Type 1} → statement M
 note-way-spec =
@@ -55,8 +55,8 @@ note-way-spec =
     element-copy-out-table
     add-table
     element-write-table
-    smaller-requires
+    min-u32-requires
     element-write-table-2
-    larger-requires
+    max-u32-requires
     element-write-table-3
     returns)

@@ -12,17 +12,17 @@ use Rattle.text.proofs.LineLaws.{answer-long, record-as}
 use Rattle.text.proofs.records.put_record_line.Statement.{statement}
 use Rattle.text.proofs.records.put_record_line.Tie as tie
 
-add-four-bytes : tie.Need-add-four-bytes
-add-four-bytes c = search needs
+add-read-u32 : tie.Need-add-read-u32
+add-read-u32 c = search needs
 
-four-bytes-requires : tie.Need-four-bytes-requires
-four-bytes-requires c κs = search needs
+read-u32-requires : tie.Need-read-u32-requires
+read-u32-requires c κs = search needs
 
-add-eight-bytes : tie.Need-add-eight-bytes
-add-eight-bytes c = search needs
+add-read-u64 : tie.Need-add-read-u64
+add-read-u64 c = search needs
 
-eight-bytes-requires : tie.Need-eight-bytes-requires
-eight-bytes-requires c κs = search needs
+read-u64-requires : tie.Need-read-u64-requires
+read-u64-requires c κs = search needs
 
 shared-slice-read-put-answer-line : tie.Need-shared-slice-read-put-answer-line
 shared-slice-read-put-answer-line c = search needs
@@ -37,12 +37,12 @@ line-fits :
     (c : tie.After-shared-slice-known3)
     → let eight = c .before .before .before in
     let args = eight .before .before .before .before .args in
-    length (answerLine (getD (args .book .now) (args .from) 0) (getD (args .book .now) (args .from + 1) 0) (eight .before .four-bytes .result) (eight .eight-bytes .result)) ≤ 40
+    length (answerLine (getD (args .book .now) (args .from) 0) (getD (args .book .now) (args .from + 1) 0) (eight .before .read-u32 .result) (eight .read-u64 .result)) ≤ 40
 line-fits c =
     let eight = c .before .before .before in
     let from = eight .before .before .before .before .args .from in
-    let number : Fits w32 (eight .before .four-bytes .result) = search needs in
-    let cents : Fits w64 (eight .eight-bytes .result) = search needs in
+    let number : Fits w32 (eight .before .read-u32 .result) = search needs in
+    let cents : Fits w64 (eight .read-u64 .result) = search needs in
     answer-long _ _ _ _ (c .shared-slice-known3 .given from .fits) (c .shared-slice-known3 .given (from + 1) .fits) (number .fits) (cents .fits)
 
 put-answer-line-requires : tie.Need-put-answer-line-requires
@@ -62,7 +62,7 @@ returns c =
     let book = start .args .book .now in
     let from = start .args .from in
     let same =
-    ap₂ (λ number cents. answerLine (getD book from 0) (getD book (from + 1) 0) number cents) (four .four-bytes .ensures) (eight .eight-bytes .ensures)
+    ap₂ (λ number cents. answerLine (getD book from 0) (getD book (from + 1) 0) number cents) (four .read-u32 .ensures) (eight .read-u64 .ensures)
     ∙ sym (record-as book from) in
     (wrote-as same (put .put-answer-line .ensures), omega (arith, put .put-answer-line .ensures .ends, line-fits (put .before)))
 
@@ -70,10 +70,10 @@ pub put-record-line-spec : {M : Type 1} → statement M
 put-record-line-spec =
     tie.close
     (tie.spec
-    add-four-bytes
-    four-bytes-requires
-    add-eight-bytes
-    eight-bytes-requires
+    add-read-u32
+    read-u32-requires
+    add-read-u64
+    read-u64-requires
     shared-slice-read-put-answer-line
     add-put-answer-line
     shared-slice-read-put-answer-line-2

@@ -148,10 +148,10 @@ found-at c =
     }
 
 -- the row that was read is the ticket's, so each step gives what it is to give for the ticket
-stop-at : (c : tie.After-larger) → c .larger .result ≡ by-place stopIn (c .before .before .before .before)
+stop-at : (c : tie.After-max-u64) → c .max-u64 .result ≡ by-place stopIn (c .before .before .before .before)
 stop-at c =
     let args = start (c .before .before .before .before) .args in
-    c .larger .ensures
+    c .max-u64 .ensures
     ∙ ap₂ max (ap (λ row. row .first) (c .before .before .read-row .ensures)) (c .before .first-game .ensures (args .rows .now) (args .marks .now))
 
 code-at : (c : tie.After-cancel-code) → table-code (c .before .before .before .before .before) ≡ c .cancel-code .result
@@ -198,8 +198,8 @@ first-game-requires : tie.Need-first-game-requires
 unfolding view
 first-game-requires c κs = record { within = found-at (c .before .before) .sure .game }
 
-larger-requires : tie.Need-larger-requires
-larger-requires c κs = search needs
+max-u64-requires : tie.Need-max-u64-requires
+max-u64-requires c κs = search needs
 
 cancel-code-requires : tie.Need-cancel-code-requires
 cancel-code-requires c κs = search needs
@@ -216,7 +216,7 @@ returns-2 c =
 refund-requires : tie.Need-refund-requires
 refund-requires c κs =
     let found = c .before .before .before .before .before .before in
-    subst⁻¹ (λ row. Refundable row (c .before .before .larger .result)) (c .before .before .before .before .read-row .ensures)
+    subst⁻¹ (λ row. Refundable row (c .before .before .max-u64 .result)) (c .before .before .before .before .read-row .ensures)
     (subst⁻¹ (Refundable (rowOf (start found .args .rows .now) (place found * 16))) (stop-at (c .before .before))
     (refund-fits (found-at found) (code-at (c .before) ∙ c .if2 .left)))
 
@@ -264,7 +264,7 @@ cancel-ticket-spec =
     returns
     read-row-requires
     first-game-requires
-    larger-requires
+    max-u64-requires
     cancel-code-requires
     refused-requires-2
     returns-2

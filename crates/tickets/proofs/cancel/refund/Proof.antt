@@ -7,11 +7,11 @@ use Rattle.house.specs.Tickets.{paidStakes}
 use Rattle.tickets.proofs.cancel.refund.Statement.{statement}
 use Rattle.tickets.proofs.cancel.refund.Tie as tie
 
-smaller-requires : tie.Need-smaller-requires
-smaller-requires c κs = search needs
+min-u64-requires : tie.Need-min-u64-requires
+min-u64-requires c κs = search needs
 
-smaller-requires-2 : tie.Need-smaller-requires-2
-smaller-requires-2 c κs = search needs
+min-u64-requires-2 : tie.Need-min-u64-requires-2
+min-u64-requires-2 c κs = search needs
 
 sub-paid : tie.Need-sub-paid
 sub-paid c = search needs
@@ -33,14 +33,14 @@ unfolding paidStakes
 returns c = λ marks.
     let row = c .before .before .before .before .before .args .row in
     c .charge-of .ensures
-    ∙ ap₂ (λ upto from. charge (row .stake) (row .ways) (upto - from)) (c .before .before .before .before .smaller .ensures) (c .before .before .before .smaller2 .ensures)
+    ∙ ap₂ (λ upto from. charge (row .stake) (row .ways) (upto - from)) (c .before .before .before .before .min-u64 .ensures) (c .before .before .before .min-u642 .ensures)
 
 pub refund-spec : {M : Type 1} → statement M
 refund-spec =
     tie.close
     (tie.spec
-    smaller-requires
-    smaller-requires-2
+    min-u64-requires
+    min-u64-requires-2
     sub-paid
     cast-charge-of
     cast-charge-of-2

@@ -11,29 +11,29 @@ use Rattle.prizes.proofs.cut.Cut.next_below.Tie as tie
 shareable-requires : tie.Need-shareable-requires
 shareable-requires c κs = search needs
 
-add-larger : tie.Need-add-larger
-add-larger c = search needs
+add-max-u64 : tie.Need-add-max-u64
+add-max-u64 c = search needs
 
-larger-requires : tie.Need-larger-requires
-larger-requires c κs = search needs
+max-u64-requires : tie.Need-max-u64-requires
+max-u64-requires c κs = search needs
 
 returns : tie.Need-returns
 unfolding nextBelow
 returns c =
     let nothing-left : 250 ≤ c .before .before .before .args .self .count = omega arith in
-    c .larger .ensures ∙ simp (le-leb _ _ nothing-left)
+    c .max-u64 .ensures ∙ simp (le-leb _ _ nothing-left)
 
 rounded-up-requires : tie.Need-rounded-up-requires
 rounded-up-requires c κs = search needs
 
-larger-requires-2 : tie.Need-larger-requires-2
-larger-requires-2 c κs = search needs
+max-u64-requires-2 : tie.Need-max-u64-requires-2
+max-u64-requires-2 c κs = search needs
 
 returns-2 : tie.Need-returns-2
 unfolding nextBelow
 returns-2 c =
     let some-left : c .before .before .before .before .args .self .count < 250 = omega arith in
-    c .larger2 .ensures
+    c .max-u642 .ensures
     ∙ simp (
       lt-leb _ _ some-left,
       c .before .rounded-up .ensures,
@@ -45,9 +45,9 @@ next-below-spec =
     tie.close
     (tie.spec
     shareable-requires
-    add-larger
-    larger-requires
+    add-max-u64
+    max-u64-requires
     returns
     rounded-up-requires
-    larger-requires-2
+    max-u64-requires-2
     returns-2)

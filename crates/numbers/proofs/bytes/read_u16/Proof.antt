@@ -1,11 +1,11 @@
--- `text::records::two_bytes` meets its contract: the number that two bytes in a row stand for.
-use Prim.Native.Nat.{_+_}
-use mathlib.Core.Path.{sym}
+-- `numbers::bytes::read_u16` meets its contract: the number that two bytes in a row stand for.
+use Prim.Native.Nat.{_+_, _*_}
+use mathlib.Core.Path.{sym, ap₂, _∙_}
 use native.Mathlib.Omega.{arith}
 use borrow.Author.Needs.{needs}
-use Rattle.roll.proofs.ByteLaws.{two-bytes-at}
-use Rattle.text.proofs.records.two_bytes.Statement.{statement}
-use Rattle.text.proofs.records.two_bytes.Tie as tie
+use Rattle.numbers.proofs.ByteLaws.{by-parts, one-byte-at}
+use Rattle.numbers.proofs.bytes.read_u16.Statement.{statement}
+use Rattle.numbers.proofs.bytes.read_u16.Tie as tie
 
 shared-slice-read-result : tie.Need-shared-slice-read-result
 shared-slice-read-result c = search needs
@@ -31,10 +31,15 @@ add-result-2 c =
     omega (arith, c .shared-slice-known2 .given at, c .shared-slice-known2 .given (at + 1))
 
 returns : tie.Need-returns
-returns c = sym (two-bytes-at (c .before .before .args .book .now) (c .before .before .args .at) (c .before .before .pre))
+returns c =
+    let start = c .before .before in
+    let l = start .args .buffer .now in
+    let at = start .args .at in
+    sym (by-parts 1 1 l at (start .pre .ends)
+    ∙ ap₂ (λ high low. high * 256 + low) (one-byte-at l at (omega arith)) (one-byte-at l (at + 1) (omega arith)))
 
-pub two-bytes-spec : {M : Type 1} → statement M
-two-bytes-spec =
+pub read-u16-spec : {M : Type 1} → statement M
+read-u16-spec =
     tie.close
     (tie.spec
     shared-slice-read-result
