@@ -1,55 +1,73 @@
--- What the decoder answers: where it stops, what a whole command is, and that it is the command that its bytes stand for.
+-- What the decoder answers: where it stops, what a whole command is, and that it is the command that its bytes stand for. What holds of each row of the
+-- table holds of the row that a byte has.
 use Prim.Native.Nat.{ℕ, suc, _+_, _-_, _≤_, _<_}
 use native.Mathlib.Numerals.{add-one}
 use native.Mathlib.Omega.{arith}
-use mathlib.Core.Path.{_≡_, refl, sym, ap, _∙_}
-use mathlib.Core.Bool.{Bool, true, false, cond, not}
+use mathlib.Core.Path.{_≡_, refl, sym, ap, subst, _∙_}
+use mathlib.Core.Bool.{Bool, true, false, cond}
 use mathlib.Core.List.{List, [], _∷_}
 use lib.Dec.{ltb, eqb}
 use lib.ListN.{length, getD, take, drop, length-drop}
 use lib.Seq.{drop-cons, drop-drop}
-use borrow.Author.Tests.{ltb-false, lt-ltb, le-ltb, ne-eqb}
-use Rattle.sale.specs.Checks.{operandsOf}
-use Rattle.house.specs.Commands.{open′, sell, cancel, ball, claim, expire, transfer}
-use Rattle.commands.specs.Meant.{meant}
-use Rattle.commands.specs.declared.command.Command.{Command}
-use Rattle.commands.specs.declared.command.Command.the-variants.{Open, Sell, Cancel, Ball, Claim, Expire, Transfer}
+use borrow.Author.Tests.{ltb-false, lt-ltb, le-ltb, ne-eqb, eqb-true}
 use Rattle.numbers.specs.Bytes.{numberOf}
 use Rattle.numbers.proofs.ByteLaws.{part-of-first, byte-of-part}
-use Rattle.roll.specs.Decode.{isKnown, operandBytes, saleIn, marksIn, commandOf}
-use Rattle.roll.specs.Orders.{orderOf, lentMarks, decodedAt}
+use Rattle.house.proofs.Ledger.{All}
+use Rattle.commands.specs.Meant.{meant}
+use Rattle.commands.specs.declared.command.Command.{Command}
+use Rattle.roll.specs.Decode.{CommandRow, commandRows, Lookup, unknown, known, lookUp, rowOf, saleIn, commandOf}
+use Rattle.roll.specs.Orders.{operandsBy, operandBytes, decodedBy, lentMarks, decodedAt}
 use Rattle.roll.specs.declared.decode.Decoded.the-variants.{Whole, Stop}
 
--- ---- the last row of the table of commands
+-- ---- the table of commands
 
--- a byte that is none of the first six
+-- a byte that is none of the table's
 abbrev pub Other : ℕ → Type 0
 Other byte =
-    (((((Unit {0} × (byte ≡ 1 → ⊥)) × (byte ≡ 2 → ⊥)) × (byte ≡ 3 → ⊥)) × (byte ≡ 4 → ⊥)) × (byte ≡ 5 → ⊥)) × (byte ≡ 6 → ⊥)
+    ((((((Unit {0} × (byte ≡ 1 → ⊥)) × (byte ≡ 2 → ⊥)) × (byte ≡ 3 → ⊥)) × (byte ≡ 4 → ⊥)) × (byte ≡ 5 → ⊥)) × (byte ≡ 6 → ⊥)) × (byte ≡ 7 → ⊥)
 
-pub other-size : (byte : ℕ) → Other byte → operandBytes byte ≡ 5
-unfolding operandBytes
-other-size byte none =
+pub other-row : (byte : ℕ) → Other byte → rowOf byte ≡ unknown
+unfolding commandRows lookUp
+other-row byte none =
     rw (
-      ne-eqb byte 1 (none .0 .0 .0 .0 .0 .1),
-      ne-eqb byte 2 (none .0 .0 .0 .0 .1),
-      ne-eqb byte 3 (none .0 .0 .0 .1),
-      ne-eqb byte 4 (none .0 .0 .1),
-      ne-eqb byte 5 (none .0 .1),
-      ne-eqb byte 6 (none .1),
+      ne-eqb byte 1 (none .0 .0 .0 .0 .0 .0 .1),
+      ne-eqb byte 2 (none .0 .0 .0 .0 .0 .1),
+      ne-eqb byte 3 (none .0 .0 .0 .0 .1),
+      ne-eqb byte 4 (none .0 .0 .0 .1),
+      ne-eqb byte 5 (none .0 .0 .1),
+      ne-eqb byte 6 (none .0 .1),
+      ne-eqb byte 7 (none .1),
     )
 
-pub other-order : (byte : ℕ) (bytes : List ℕ) → Other byte → orderOf byte bytes ≡ Transfer (getD bytes 0 0) (numberOf (drop 1 bytes))
-unfolding orderOf
-other-order byte bytes none =
-    rw (
-      ne-eqb byte 1 (none .0 .0 .0 .0 .0 .1),
-      ne-eqb byte 2 (none .0 .0 .0 .0 .1),
-      ne-eqb byte 3 (none .0 .0 .0 .1),
-      ne-eqb byte 4 (none .0 .0 .1),
-      ne-eqb byte 5 (none .0 .1),
-      ne-eqb byte 6 (none .1),
-    )
+-- the row that is found for a byte has that byte, and what holds of each row
+found : (P : CommandRow → Type 0) (rows : List CommandRow) → All P rows → (byte : ℕ) (row : CommandRow) → lookUp rows byte ≡ known row → (row .byte ≡ byte) × P row
+unfolding lookUp
+found P [] each byte row e = let z : _≡_ {A = ℕ} 0 1 = cc in absurd (omega arith)
+found P (first ∷ rows) (this, later) byte row e = go (eqb byte (first .byte)) (found P rows later byte row) refl e
+  where
+    go :
+        (same : Bool)
+        → (lookUp rows byte ≡ known row → (row .byte ≡ byte) × P row)
+        → eqb byte (first .byte) ≡ same
+        → cond same (known first) (lookUp rows byte) ≡ known row
+        → (row .byte ≡ byte) × P row
+    go true further p q =
+        let r : first ≡ row = cc in
+        subst (λ (x : CommandRow). (x .byte ≡ byte) × P x) r (sym (eqb-true byte (first .byte) p), this)
+    go false further p q = further q
+
+pub row-found : (P : CommandRow → Type 0) → All P commandRows → (byte : ℕ) (row : CommandRow) → rowOf byte ≡ known row → (row .byte ≡ byte) × P row
+row-found P each = found P commandRows each
+
+-- a decoded command, with Sell's marks beside it, is the command that the bytes stand for
+rows-meant : All (λ row. (bytes : List ℕ) → meant (row .decoded bytes) (lentMarks (row .byte) bytes) ≡ commandOf row bytes) commandRows
+unfolding commandRows
+rows-meant = (λ _. refl, (λ _. refl, (λ _. refl, (λ _. refl, (λ _. refl, (λ _. refl, (λ _. refl, tt)))))))
+
+pub order-meant : (byte : ℕ) (row : CommandRow) (bytes : List ℕ) → rowOf byte ≡ known row → meant (row .decoded bytes) (lentMarks byte bytes) ≡ commandOf row bytes
+order-meant byte row bytes e =
+    let here = row-found (λ row. (bytes : List ℕ) → meant (row .decoded bytes) (lentMarks (row .byte) bytes) ≡ commandOf row bytes) rows-meant byte row e in
+    ap (λ b. meant (row .decoded bytes) (lentMarks b bytes)) (sym (here .0)) ∙ here .1 bytes
 
 -- ---- Sell's operands
 
@@ -81,90 +99,54 @@ module _ (l : List ℕ) (at : ℕ) (within : at < length l) where
   left-over : length (drop (suc at) l) ≡ length l - (at + 1)
   left-over = length-drop (suc at) l ∙ ap (λ n. length l - n) (sym (add-one at))
 
-  pub unknown-there : isKnown byte ≡ false → decodedAt (drop at l) ≡ Stop 1
+  pub short-there : length l - (at + 1) < operandBytes byte → decodedAt (drop at l) ≡ Stop 2
   unfolding decodedAt
-  unknown-there unknown = rw (drop-cons l at 0 within, unknown)
-
-  pub short-there : isKnown byte ≡ true → length l - (at + 1) < operandBytes byte → decodedAt (drop at l) ≡ Stop 2
-  unfolding decodedAt
-  short-there known short =
-      rw (drop-cons l at 0 within, known, lt-ltb (length (drop (suc at) l)) (operandBytes byte) (omega (arith, left-over)))
+  short-there short =
+      rw (drop-cons l at 0 within, lt-ltb (length (drop (suc at) l)) (operandBytes byte) (omega (arith, left-over)))
 
   pub whole-there :
-      isKnown byte ≡ true
-      → operandBytes byte ≤ length l - (at + 1)
-      → decodedAt (drop at l) ≡ Whole (orderOf byte (take (operandBytes byte) (drop (at + 1) l))) (operandBytes byte + 1)
+      operandBytes byte ≤ length l - (at + 1)
+      → decodedAt (drop at l) ≡ decodedBy (rowOf byte) (drop (at + 1) l) (operandBytes byte + 1)
   unfolding decodedAt
-  whole-there known enough =
+  whole-there enough =
       rw (
         drop-cons l at 0 within,
-        known,
         le-ltb (length (drop (suc at) l)) (operandBytes byte) (omega (arith, left-over)),
         add-one at,
       )
-
--- ---- what is decoded
-
--- a decoded command, with Sell's marks beside it, is the command that the bytes stand for
-pub order-meant : (byte : ℕ) (bytes : List ℕ) → meant (orderOf byte bytes) (lentMarks byte bytes) ≡ commandOf byte bytes
-unfolding orderOf commandOf
-order-meant byte bytes = go (eqb byte 1) (eqb byte 2) (eqb byte 3) (eqb byte 4) (eqb byte 5) (eqb byte 6)
-  where
-    go :
-        (opens sells cancels draws claims expires : Bool)
-        → meant
-        (cond opens (Open (numberOf bytes))
-        (cond sells (Sell (saleIn bytes))
-        (cond cancels (Cancel (numberOf bytes))
-        (cond draws (Ball (getD bytes 0 0))
-        (cond claims (Claim (numberOf bytes))
-        (cond expires Expire (Transfer (getD bytes 0 0) (numberOf (drop 1 bytes)))))))))
-        (cond sells (marksIn bytes) [])
-        ≡ cond opens (open′ (numberOf bytes))
-        (cond sells (sell (operandsOf (saleIn bytes) (marksIn bytes)))
-        (cond cancels (cancel (numberOf bytes))
-        (cond draws (ball (getD bytes 0 0))
-        (cond claims (claim (numberOf bytes))
-        (cond expires expire (transfer (getD bytes 0 0) (numberOf (drop 1 bytes))))))))
-    go true sells cancels draws claims expires = refl
-    go false true cancels draws claims expires = refl
-    go false false true draws claims expires = refl
-    go false false false true claims expires = refl
-    go false false false false true expires = refl
-    go false false false false false true = refl
-    go false false false false false false = refl
 
 -- a whole command that stands at the start of a part of a roll
 pub record Stands (roll : List ℕ) (order : Command) (size : ℕ) : Type 0 where
   pub byte : ℕ
   pub rest : List ℕ
+  pub row : CommandRow
   pub begins : roll ≡ byte ∷ rest
-  pub known : isKnown byte ≡ true
-  pub enough : operandBytes byte ≤ length rest
-  pub is : order ≡ orderOf byte (take (operandBytes byte) rest)
-  pub long : size ≡ operandBytes byte + 1
+  pub has : rowOf byte ≡ known row
+  pub enough : row .operands ≤ length rest
+  pub is : order ≡ row .decoded (take (row .operands) rest)
+  pub long : size ≡ row .operands + 1
 
 pub stands : (roll : List ℕ) (order : Command) (size : ℕ) → decodedAt roll ≡ Whole order size → Stands roll order size
 unfolding decodedAt
 stands [] order size e = let z : _≡_ {A = ℕ} 0 1 = cc in absurd (omega arith)
-stands (byte ∷ rest) order size e = go (isKnown byte) (ltb (length rest) (operandBytes byte)) refl refl e
+stands (byte ∷ rest) order size e = go (rowOf byte) (ltb (length rest) (operandBytes byte)) refl refl e
   where
     go :
-        (known short : Bool)
-        → isKnown byte ≡ known
-        → ltb (length rest) (operandBytes byte) ≡ short
-        → cond (not known) (Stop 1) (cond short (Stop 2) (Whole (orderOf byte (take (operandBytes byte) rest)) (operandBytes byte + 1)))
-        ≡ Whole order size
+        (looked : Lookup) (short : Bool)
+        → rowOf byte ≡ looked
+        → ltb (length rest) (operandsBy looked) ≡ short
+        → cond short (Stop 2) (decodedBy looked rest (operandsBy looked + 1)) ≡ Whole order size
         → Stands (byte ∷ rest) order size
-    go false short p q e = let z : _≡_ {A = ℕ} 0 1 = cc in absurd (omega arith)
-    go true true p q e = let z : _≡_ {A = ℕ} 0 1 = cc in absurd (omega arith)
-    go true false p q e =
+    go looked true p q e = let z : _≡_ {A = ℕ} 0 1 = cc in absurd (omega arith)
+    go unknown false p q e = let z : _≡_ {A = ℕ} 0 1 = cc in absurd (omega arith)
+    go (known row) false p q e =
         record {
           byte = byte;
           rest = rest;
+          row = row;
           begins = refl;
-          known = p;
-          enough = ltb-false (length rest) (operandBytes byte) q;
+          has = p;
+          enough = ltb-false (length rest) (row .operands) q;
           is = cc;
           long = cc;
         }

@@ -4,7 +4,7 @@ use Prim.Native.Nat.{ℕ, zero, suc, _+_, _-_, _*_, _≤_, _<_}
 use native.Mathlib.Numerals.{add-one}
 use native.Mathlib.Omega.{arith}
 use mathlib.Core.Path.{_≡_, refl, sym, ap, ap₂, subst, _∙_}
-use mathlib.Core.Bool.{Bool, true, false, cond, not}
+use mathlib.Core.Bool.{Bool, true, false, cond}
 use mathlib.Core.List.{List, [], _∷_, _++_, append-assoc, append-nil}
 use lib.Dec.{ltb, eqb}
 use lib.ListN.{length, getD, take, drop, take-append-drop, length-append, length-take, length-drop, drop-of-length-le}
@@ -17,9 +17,9 @@ use Rattle.commands.specs.Meant.{meant}
 use Rattle.house.specs.declared.answer.Answer.{Answer}
 use Rattle.commands.specs.declared.command.Command.{Command}
 use Rattle.numbers.specs.Bytes.{bytesOf}
-use Rattle.roll.specs.Decode.{isKnown, operandBytes, commandOf, recordOf}
-use Rattle.roll.specs.Reading.{Reading, stopped, answered, readTurns, readRoll, AllRefused}
-use Rattle.roll.specs.Orders.{orderOf, lentMarks, decodedAt, verdictOf}
+use Rattle.roll.specs.Decode.{CommandRow, Lookup, unknown, known, rowOf, commandOf, recordOf}
+use Rattle.roll.specs.Reading.{Reading, stopped, answered, turnAt, readTurns, readRoll, AllRefused}
+use Rattle.roll.specs.Orders.{operandsBy, operandBytes, decodedBy, lentMarks, decodedAt, verdictOf}
 use Rattle.roll.specs.declared.decode.Decoded.the-variants.{Whole, Stop}
 use Rattle.roll.specs.declared.reader.Verdict.the-variants.{Accepted, Refused}
 use Rattle.roll.proofs.DecodeLaws.{order-meant, Stands}
@@ -38,53 +38,60 @@ pub turn-stops :
     → readTurns (suc turns) m roll book ≡ stopped m code book
 unfolding decodedAt readTurns
 turn-stops turns m [] book code e = let same : 0 ≡ code = cc in ap (λ k. stopped m k book) same
-turn-stops turns m (byte ∷ rest) book code e =
-    go (not (isKnown byte)) (ltb (length rest) (operandBytes byte)) (orderOf byte (take (operandBytes byte) rest)) (operandBytes byte + 1) _ e
+turn-stops turns m (byte ∷ rest) book code e = go (rowOf byte) e
   where
+    short-stops :
+        (short : Bool) (order : Command) (size : ℕ) (more : Reading)
+        → cond short (Stop 2) (Whole order size) ≡ Stop code
+        → cond short (stopped m 2 book) more ≡ stopped m code book
+    short-stops true order size more e = let same : 2 ≡ code = cc in ap (λ k. stopped m k book) same
+    short-stops false order size more e = let z : _≡_ {A = ℕ} 0 1 = cc in absurd (omega arith)
+
     go :
-        (unknown short : Bool) (order : Command) (size : ℕ) (more : Reading)
-        → cond unknown (Stop 1) (cond short (Stop 2) (Whole order size)) ≡ Stop code
-        → cond unknown (stopped m 1 book) (cond short (stopped m 2 book) more) ≡ stopped m code book
-    go true short order size more e = let same : 1 ≡ code = cc in ap (λ k. stopped m k book) same
-    go false true order size more e = let same : 2 ≡ code = cc in ap (λ k. stopped m k book) same
-    go false false order size more e = let z : _≡_ {A = ℕ} 0 1 = cc in absurd (omega arith)
+        (looked : Lookup)
+        → cond (ltb (length rest) (operandsBy looked)) (Stop 2) (decodedBy looked rest (operandsBy looked + 1)) ≡ Stop code
+        → turnAt (readTurns turns) m byte rest book looked ≡ stopped m code book
+    go unknown e =
+        let never : Stop 1 ≡ Stop code = rw (le-ltb (length rest) 0 (omega arith)) at e in
+        let same : 1 ≡ code = cc in
+        ap (λ k. stopped m k book) same
+    go (known row) e = short-stops (ltb (length rest) (row .operands)) _ _ _ e
 
 -- a known command with all its bytes, and room for its answer
 turn-known :
-    (turns : ℕ) (m : Model) (byte : ℕ) (rest book : List ℕ)
-    → isKnown byte ≡ true
-    → operandBytes byte ≤ length rest
+    (turns : ℕ) (m : Model) (byte : ℕ) (rest book : List ℕ) (row : CommandRow)
+    → rowOf byte ≡ known row
+    → row .operands ≤ length rest
     → 14 ≤ length book
     → readTurns (suc turns) m (byte ∷ rest) book
-    ≡ answeredBy turns m book (1 + operandBytes byte) (commandOf byte (take (operandBytes byte) rest)) byte (drop (operandBytes byte) rest)
+    ≡ answeredBy turns m book (1 + row .operands) (commandOf row (take (row .operands) rest)) byte (drop (row .operands) rest)
 unfolding readTurns
-turn-known turns m byte rest book known enough room =
-    rw (known, le-ltb (length rest) (operandBytes byte) enough, le-ltb (length book) 14 room)
+turn-known turns m byte rest book row has enough room =
+    rw (has, le-ltb (length rest) (row .operands) enough, le-ltb (length book) 14 room)
 
 module _ (turns : ℕ) (m : Model) (roll book : List ℕ) (order : Command) (size : ℕ) (s : Stands roll order size) where
   -- no room for an answer
   pub turn-full : length book < 14 → readTurns (suc turns) m roll book ≡ stopped m 3 book
   unfolding readTurns
   turn-full full =
-      rw (s .begins, s .known, le-ltb (length (s .rest)) (operandBytes (s .byte)) (s .enough), lt-ltb (length book) 14 full)
+      rw (s .begins, s .has, le-ltb (length (s .rest)) (s .row .operands) (s .enough), lt-ltb (length book) 14 full)
 
-  after-command : drop size roll ≡ drop (operandBytes (s .byte)) (s .rest)
-  after-command = rw (s .begins, s .long, add-one (operandBytes (s .byte)))
+  after-command : drop size roll ≡ drop (s .row .operands) (s .rest)
+  after-command = rw (s .begins, s .long, add-one (s .row .operands))
 
   -- the command answered, with what is lent with it
   pub turn-answers :
       (marks : List ℕ)
       → 14 ≤ length book
-      → marks ≡ lentMarks (s .byte) (take (operandBytes (s .byte)) (s .rest))
+      → marks ≡ lentMarks (s .byte) (take (s .row .operands) (s .rest))
       → readTurns (suc turns) m roll book ≡ answeredBy turns m book size (meant order marks) (getD roll 0 0) (drop size roll)
   turn-answers marks room same =
-      let bytes = take (operandBytes (s .byte)) (s .rest) in
-      let command = sym (ap₂ meant (s .is) same ∙ order-meant (s .byte) bytes) in
-      let long : 1 + operandBytes (s .byte) ≡ size = omega (arith, s .long) in
+      let command = sym (ap₂ meant (s .is) same ∙ order-meant (s .byte) (s .row) (take (s .row .operands) (s .rest)) (s .has)) in
+      let long : 1 + s .row .operands ≡ size = omega (arith, s .long) in
       let byte = sym (ap (λ l. getD l 0 0) (s .begins)) in
       let later = sym after-command in
       ap (λ l. readTurns (suc turns) m l book) (s .begins)
-      ∙ turn-known turns m (s .byte) (s .rest) book (s .known) (s .enough) room
+      ∙ turn-known turns m (s .byte) (s .rest) book (s .row) (s .has) (s .enough) room
       ∙ (λ i. answeredBy turns m book (long i) (command i) (byte i) (later i))
 
 -- ---- a record written after others
@@ -297,14 +304,15 @@ module _ (quiet : Type 0) (whole : Reading) (m : Model) (roll book : List ℕ) (
     command-byte = sym (ap (λ l. getD l 0 0) (s .begins)) ∙ first-byte roll read
 
     pub operands-within : read + 1 + operandBytes (getD roll read 0) ≤ length roll
-    operands-within = omega (arith, command-within, s .long, ap operandBytes command-byte)
+    operands-within = omega (arith, command-within, s .long, ap operandsBy (sym (ap rowOf command-byte) ∙ s .has))
 
     -- one more answer, its record written after the others
     module _ (marks : List ℕ) (room : done + 14 ≤ length book) (same : marks ≡ lentMarks (getD roll read 0) (take (operandBytes (getD roll read 0)) (drop (read + 1) roll))) where
-      lent : marks ≡ lentMarks (s .byte) (take (operandBytes (s .byte)) (s .rest))
+      lent : marks ≡ lentMarks (s .byte) (take (s .row .operands) (s .rest))
       lent =
           same
           ∙ ap₂ (λ b l. lentMarks b (take (operandBytes b) l)) (sym command-byte) (sym (drop-drop 1 read roll) ∙ ap (drop 1) (s .begins))
+          ∙ ap (λ looked. lentMarks (s .byte) (take (operandsBy looked) (s .rest))) (s .has)
 
       turn-here : (turns : ℕ) → readTurns (suc turns) m (drop read roll) (drop done book)
           ≡ answeredBy turns m (drop done book) size (meant order marks) (getD roll read 0) (drop size (drop read roll))

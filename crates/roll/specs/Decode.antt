@@ -2,28 +2,17 @@
 -- 04h "Ball: number (1)"; 05h "Claim: ticket (4)"; 06h "Expire"; 07h "Transfer: jackpot 6 or 8 (1), cents (4)". And "writes 14 bytes each [..]: command
 -- byte, code (0 or the refusal), number (4), cents (8)".
 use Prim.Native.Nat.{ℕ}
-use mathlib.Core.Bool.{Bool, cond, _&&_}
-use mathlib.Core.List.{List, _∷_, _++_}
-use lib.Dec.{leb, eqb}
+use mathlib.Core.Bool.{cond}
+use mathlib.Core.List.{List, [], _∷_, _++_}
+use lib.Dec.{eqb}
 use lib.ListN.{getD, take, drop}
-use Rattle.sale.specs.Checks.{operandsOf}
-use Rattle.sale.specs.declared.terms.Sale.{Sale}
-use Rattle.house.specs.Commands.{Command, open′, sell, cancel, ball, claim, expire, transfer}
-use Rattle.house.specs.declared.answer.Answer.{Answer}
 use Rattle.numbers.specs.Bytes.{numberOf, bytesOf}
-
-abbrev pub isKnown : ℕ → Bool
-isKnown byte = leb 1 byte && leb byte 7
-
--- how many operand bytes follow a known command byte
-unfoldable pub operandBytes : ℕ → ℕ
-operandBytes byte =
-    cond (eqb byte 1) 2
-    (cond (eqb byte 2) 88
-    (cond (eqb byte 3) 4
-    (cond (eqb byte 4) 1
-    (cond (eqb byte 5) 4
-    (cond (eqb byte 6) 0 5)))))
+use Rattle.sale.specs.declared.terms.Sale.{Sale}
+use Rattle.house.specs.Commands.{open′, sell, cancel, ball, claim, expire, transfer}
+use Rattle.house.specs.declared.answer.Answer.{Answer}
+use Rattle.commands.specs.Meant.{meant}
+use Rattle.commands.specs.declared.command.Command.{Command}
+use Rattle.commands.specs.declared.command.Command.the-variants.{Open, Sell, Cancel, Ball, Claim, Expire, Transfer}
 
 -- Sell's operands up to the marks
 abbrev pub saleIn : List ℕ → Sale
@@ -40,18 +29,42 @@ saleIn bytes =
 abbrev pub marksIn : List ℕ → List ℕ
 marksIn bytes = take 80 (drop 8 bytes)
 
--- a known command byte with its operand bytes
-unfoldable pub commandOf : ℕ → List ℕ → Command
-commandOf byte bytes =
-    cond (eqb byte 1) (open′ (numberOf bytes))
-    (cond (eqb byte 2) (sell (operandsOf (saleIn bytes) (marksIn bytes)))
-    (cond (eqb byte 3) (cancel (numberOf bytes))
-    (cond (eqb byte 4) (ball (getD bytes 0 0))
-    (cond (eqb byte 5) (claim (numberOf bytes))
-    (cond (eqb byte 6) expire (transfer (getD bytes 0 0) (numberOf (drop 1 bytes))))))))
+-- a row of the table: the command's byte, how many operand bytes follow it, and the decoded command that they are read as, Sell's without its marks
+pub record CommandRow : Type 0 where
+  pub byte : ℕ
+  pub operands : ℕ
+  pub decoded : List ℕ → Command
+
+-- the table, row by row
+unfoldable pub commandRows : List CommandRow
+commandRows =
+    record { byte = 1; operands = 2; decoded = λ bytes. Open (numberOf bytes) }
+    ∷ record { byte = 2; operands = 88; decoded = λ bytes. Sell (saleIn bytes) }
+    ∷ record { byte = 3; operands = 4; decoded = λ bytes. Cancel (numberOf bytes) }
+    ∷ record { byte = 4; operands = 1; decoded = λ bytes. Ball (getD bytes 0 0) }
+    ∷ record { byte = 5; operands = 4; decoded = λ bytes. Claim (numberOf bytes) }
+    ∷ record { byte = 6; operands = 0; decoded = λ bytes. Expire }
+    ∷ record { byte = 7; operands = 5; decoded = λ bytes. Transfer (getD bytes 0 0) (numberOf (drop 1 bytes)) }
+    ∷ []
+
+-- what the table has for a byte
+pub data Lookup : Type 0 where
+  unknown : Lookup
+  known : CommandRow → Lookup
+
+unfoldable pub lookUp : List CommandRow → ℕ → Lookup
+lookUp [] byte = unknown
+lookUp (row ∷ rows) byte = cond (eqb byte (row .byte)) (known row) (lookUp rows byte)
+
+abbrev pub rowOf : ℕ → Lookup
+rowOf byte = lookUp commandRows byte
+
+-- the command that a row's operand bytes stand for, Sell's with the marks among them
+abbrev pub commandOf : CommandRow → List ℕ → Rattle.house.specs.Commands.Command
+commandOf row bytes = meant (row .decoded bytes) (marksIn bytes)
 
 -- the byte of a command
-abbrev pub byteOf : Command → ℕ
+abbrev pub byteOf : Rattle.house.specs.Commands.Command → ℕ
 byteOf (open′ d) = 1
 byteOf (sell o) = 2
 byteOf (cancel n) = 3

@@ -1,17 +1,14 @@
 -- What the decoder answers, and what the reader's parts leave: the definitions that the contracts of this crate's functions cite.
 use Prim.Native.Nat.{ℕ, _+_}
 use mathlib.Core.Path.{_≡_}
-use mathlib.Core.Bool.{cond, not}
+use mathlib.Core.Bool.{cond}
 use mathlib.Core.List.{List, [], _∷_}
 use lib.Dec.{ltb, eqb}
-use lib.ListN.{length, take, drop, getD}
-use Rattle.commands.specs.declared.command.Command.{Command}
-use Rattle.commands.specs.declared.command.Command.the-variants.{Open, Sell, Cancel, Ball, Claim, Expire, Transfer}
+use lib.ListN.{length, take}
 use Rattle.house.specs.declared.answer.Answer.{Answer}
 use Rattle.house.specs.declared.state.House.{House}
 use Rattle.house.specs.View.{view}
-use Rattle.numbers.specs.Bytes.{numberOf}
-use Rattle.roll.specs.Decode.{isKnown, operandBytes, saleIn, marksIn}
+use Rattle.roll.specs.Decode.{marksIn, Lookup, unknown, known, rowOf}
 use Rattle.roll.specs.Reading.{Reading, readRoll, AllRefused}
 use Rattle.roll.specs.declared.decode.Decoded.{Decoded}
 use Rattle.roll.specs.declared.decode.Decoded.the-variants.{Whole, Stop}
@@ -19,15 +16,18 @@ use Rattle.roll.specs.declared.reader.Report.{Report}
 use Rattle.roll.specs.declared.reader.Verdict.{Verdict}
 use Rattle.roll.specs.declared.reader.Verdict.the-variants.{Accepted, Refused}
 
--- a known command byte with its operand bytes, as the code has it; Sell's marks stand beside it
-unfoldable pub orderOf : ℕ → List ℕ → Command
-orderOf byte bytes =
-    cond (eqb byte 1) (Open (numberOf bytes))
-    (cond (eqb byte 2) (Sell (saleIn bytes))
-    (cond (eqb byte 3) (Cancel (numberOf bytes))
-    (cond (eqb byte 4) (Ball (getD bytes 0 0))
-    (cond (eqb byte 5) (Claim (numberOf bytes))
-    (cond (eqb byte 6) Expire (Transfer (getD bytes 0 0) (numberOf (drop 1 bytes))))))))
+-- how many operand bytes follow a command byte: none behind an unknown one
+abbrev pub operandsBy : Lookup → ℕ
+operandsBy unknown = 0
+operandsBy (known row) = row .operands
+
+abbrev pub operandBytes : ℕ → ℕ
+operandBytes byte = operandsBy (rowOf byte)
+
+-- a command of so many bytes from its row and what follows its byte; an unknown byte is none
+abbrev pub decodedBy : Lookup → List ℕ → ℕ → Decoded
+decodedBy unknown rest size = Stop 1
+decodedBy (known row) rest size = Whole (row .decoded (take (row .operands) rest)) size
 
 -- what is lent with a command: the marks of a Sell, and nothing with another command, which reads none
 abbrev pub lentMarks : ℕ → List ℕ → List ℕ
@@ -37,9 +37,7 @@ lentMarks byte bytes = cond (eqb byte 2) (marksIn bytes) []
 unfoldable pub decodedAt : List ℕ → Decoded
 decodedAt [] = Stop 0
 decodedAt (byte ∷ rest) =
-    cond (not (isKnown byte)) (Stop 1)
-    (cond (ltb (length rest) (operandBytes byte)) (Stop 2)
-    (Whole (orderOf byte (take (operandBytes byte) rest)) (operandBytes byte + 1)))
+    cond (ltb (length rest) (operandBytes byte)) (Stop 2) (decodedBy (rowOf byte) rest (operandBytes byte + 1))
 
 -- the stop code of what is no whole command
 abbrev pub stopOf : Decoded → ℕ

@@ -4,13 +4,13 @@
 -- left; 3 under 14 bytes free in the book".
 use Prim.Native.Nat.{ℕ, zero, suc, _+_}
 use mathlib.Core.Path.{_≡_}
-use mathlib.Core.Bool.{cond, not}
+use mathlib.Core.Bool.{cond}
 use mathlib.Core.List.{List, [], _∷_, _++_}
 use lib.Dec.{ltb}
 use lib.ListN.{length, take, drop}
 use Rattle.house.specs.Model.{Model}
 use Rattle.house.specs.Commands.{Command, step}
-use Rattle.roll.specs.Decode.{isKnown, operandBytes, commandOf, recordOf}
+use Rattle.roll.specs.Decode.{Lookup, unknown, known, rowOf, commandOf, recordOf}
 
 -- the house after a roll, the report, the commands that were answered, and the whole book
 pub record Reading : Type 0 where
@@ -37,19 +37,23 @@ answered bytes c answer r =
       book = answer ++ r .book;
     }
 
+-- What one turn does at a byte, by what the table has for it. `later` reads what is left behind an answered command.
+abbrev pub turnAt : (Model → List ℕ → List ℕ → Reading) → Model → ℕ → List ℕ → List ℕ → Lookup → Reading
+turnAt later m byte rest book unknown = stopped m 1 book
+turnAt later m byte rest book (known row) =
+    let size = row .operands in
+    let c = commandOf row (take size rest) in
+    let done = step m c in
+    let r = later (done .house) (drop size rest) (drop 14 book) in
+    cond (ltb (length rest) size) (stopped m 2 book)
+    (cond (ltb (length book) 14) (stopped m 3 book)
+    (answered (1 + size) c (recordOf byte (done .answer)) r))
+
 -- Reading a roll into a book. Each command takes a byte at the least, so that as many turns as the roll has bytes, and one, are enough.
 unfoldable pub readTurns : ℕ → Model → List ℕ → List ℕ → Reading
 readTurns zero m roll book = stopped m 0 book
 readTurns (suc turns) m [] book = stopped m 0 book
-readTurns (suc turns) m (byte ∷ rest) book =
-    let size = operandBytes byte in
-    let c = commandOf byte (take size rest) in
-    let done = step m c in
-    let r = readTurns turns (done .house) (drop size rest) (drop 14 book) in
-    cond (not (isKnown byte)) (stopped m 1 book)
-    (cond (ltb (length rest) size) (stopped m 2 book)
-    (cond (ltb (length book) 14) (stopped m 3 book)
-    (answered (1 + size) c (recordOf byte (done .answer)) r)))
+readTurns (suc turns) m (byte ∷ rest) book = turnAt (readTurns turns) m byte rest book (rowOf byte)
 
 abbrev pub readRoll : Model → List ℕ → List ℕ → Reading
 readRoll m roll book = readTurns (length roll + 1) m roll book

@@ -6,8 +6,8 @@ use sale::terms::Sale;
 ghost use mathlib.Core.Path.{_≡_};
 ghost use Prim.Native.Nat.{_+_, _≤_};
 ghost use lib.ListN.{length, take, drop};
-ghost use Rattle.roll.specs.Decode.{isKnown, operandBytes, saleIn};
-ghost use Rattle.roll.specs.Orders.{orderOf, decodedAt};
+ghost use Rattle.roll.specs.Decode.{saleIn, rowOf};
+ghost use Rattle.roll.specs.Orders.{operandBytes, decodedBy, decodedAt};
 
 // A whole command with its length, its command byte included; or the stop code where there is none. Sell's marks stay in the roll.
 pub enum Decoded {
@@ -30,7 +30,7 @@ fn sale_at(roll: &[u8], at: usize) -> Sale
     }
 }
 
-// How many operand bytes follow a known command byte.
+// How many operand bytes follow a command byte: none behind an unknown one.
 fn operand_bytes(byte: u8) -> usize
     ensures { λ r. ⌜ r ≡ operandBytes byte ⌝ }
 {
@@ -41,30 +41,26 @@ fn operand_bytes(byte: u8) -> usize
         4 => 1,
         5 => 4,
         6 => 0,
-        _ => 5,
+        7 => 5,
+        _ => 0,
     }
 }
 
-// The command of a known byte whose operands start at a place.
-fn order_at(byte: u8, roll: &[u8], at: usize) -> Command
+// The command of so many bytes whose operands start at a place; an unknown byte is none.
+fn order_at(byte: u8, roll: &[u8], at: usize, size: usize) -> Decoded
     requires { ⌜ at + operandBytes byte ≤ length (now roll) ⌝ }
-    ensures { λ r. ⌜ r ≡ orderOf byte (take (operandBytes byte) (drop at (now (roll .entry)))) ⌝ }
+    ensures { λ r. ⌜ r ≡ decodedBy (rowOf byte) (drop at (now (roll .entry))) size ⌝ }
 {
     match byte {
-        1 => Command::Open(read_u16(roll, at)),
-        2 => Command::Sell(sale_at(roll, at)),
-        3 => Command::Cancel(read_u32(roll, at)),
-        4 => Command::Ball(roll[at]),
-        5 => Command::Claim(read_u32(roll, at)),
-        6 => Command::Expire,
-        _ => Command::Transfer(roll[at], read_u32(roll, at + 1)),
+        1 => Decoded::Whole(Command::Open(read_u16(roll, at)), size),
+        2 => Decoded::Whole(Command::Sell(sale_at(roll, at)), size),
+        3 => Decoded::Whole(Command::Cancel(read_u32(roll, at)), size),
+        4 => Decoded::Whole(Command::Ball(roll[at]), size),
+        5 => Decoded::Whole(Command::Claim(read_u32(roll, at)), size),
+        6 => Decoded::Whole(Command::Expire, size),
+        7 => Decoded::Whole(Command::Transfer(roll[at], read_u32(roll, at + 1)), size),
+        _ => Decoded::Stop(1),
     }
-}
-
-fn is_known(byte: u8) -> bool
-    ensures { λ r. ⌜ r ≡ isKnown byte ⌝ }
-{
-    1 <= byte && byte <= 7
 }
 
 // What stands at a place: nothing (0), an unknown byte (1), too few bytes (2) or a whole command.
@@ -75,13 +71,10 @@ pub(crate) fn decode(roll: &[u8], at: usize) -> Decoded
         return Decoded::Stop(0);
     }
     let byte = roll[at];
-    if !is_known(byte) {
-        return Decoded::Stop(1);
-    }
     let size = operand_bytes(byte);
     let from = at + 1;
     if roll.len() - from < size {
         return Decoded::Stop(2);
     }
-    Decoded::Whole(order_at(byte, roll, from), size + 1)
+    order_at(byte, roll, from, size + 1)
 }

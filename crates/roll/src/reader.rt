@@ -10,8 +10,7 @@ ghost use Prim.Native.Nat.{_+_, _≤_};
 ghost use lib.ListN.{length, take, drop};
 ghost use Rattle.house.specs.Balance.{Reached};
 ghost use Rattle.house.specs.View.{view};
-ghost use Rattle.roll.specs.Decode.{operandBytes};
-ghost use Rattle.roll.specs.Orders.{lentMarks, stopOf, verdictOf, Reported};
+ghost use Rattle.roll.specs.Orders.{operandBytes, lentMarks, stopOf, verdictOf, Reported};
 
 // The house after a roll, the stop code, the bytes of the answered commands, and how many answers were written.
 #[repr(C)]

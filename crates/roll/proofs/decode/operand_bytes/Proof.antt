@@ -1,37 +1,42 @@
 -- `roll::decode::operand_bytes` meets its contract: each arm is the table's row for its command byte.
 use mathlib.Core.Path.{sym, ap}
-use Rattle.roll.specs.Decode.{operandBytes}
-use Rattle.roll.proofs.DecodeLaws.{other-size}
+use Rattle.roll.specs.Decode.{commandRows, lookUp}
+use Rattle.roll.specs.Orders.{operandsBy, operandBytes}
+use Rattle.roll.proofs.DecodeLaws.{other-row}
 use Rattle.roll.proofs.decode.operand_bytes.Statement.{statement}
 use Rattle.roll.proofs.decode.operand_bytes.Tie as tie
 
 returns : tie.Need-returns
-unfolding operandBytes
+unfolding commandRows lookUp
 returns c = ap operandBytes (sym (c .match .keys1))
 
 returns-2 : tie.Need-returns-2
-unfolding operandBytes
+unfolding commandRows lookUp
 returns-2 c = ap operandBytes (sym (c .match .keys2))
 
 returns-3 : tie.Need-returns-3
-unfolding operandBytes
+unfolding commandRows lookUp
 returns-3 c = ap operandBytes (sym (c .match .keys3))
 
 returns-4 : tie.Need-returns-4
-unfolding operandBytes
+unfolding commandRows lookUp
 returns-4 c = ap operandBytes (sym (c .match .keys4))
 
 returns-5 : tie.Need-returns-5
-unfolding operandBytes
+unfolding commandRows lookUp
 returns-5 c = ap operandBytes (sym (c .match .keys5))
 
 returns-6 : tie.Need-returns-6
-unfolding operandBytes
+unfolding commandRows lookUp
 returns-6 c = ap operandBytes (sym (c .match .keys6))
 
 returns-7 : tie.Need-returns-7
-returns-7 c = sym (other-size (c .before .args .byte) (c .match .rest))
+unfolding commandRows lookUp
+returns-7 c = ap operandBytes (sym (c .match .keys7))
+
+returns-8 : tie.Need-returns-8
+returns-8 c = sym (ap operandsBy (other-row (c .before .args .byte) (c .match .rest)))
 
 pub operand-bytes-spec : {M : Type 1} → statement M
 operand-bytes-spec =
-    tie.close (tie.spec returns returns-2 returns-3 returns-4 returns-5 returns-6 returns-7)
+    tie.close (tie.spec returns returns-2 returns-3 returns-4 returns-5 returns-6 returns-7 returns-8)

@@ -6,18 +6,19 @@ use mathlib.Core.List.{List}
 use lib.ListN.{getD, take, drop}
 use lib.Seq.{drop-drop}
 use borrow.Author.Needs.{needs}
-use Rattle.commands.specs.declared.command.Command.the-variants.{Open, Sell, Cancel, Ball, Claim, Transfer}
 use Rattle.numbers.specs.Bytes.{numberOf}
-use Rattle.roll.specs.Decode.{operandBytes}
-use Rattle.roll.specs.Orders.{orderOf}
 use Rattle.numbers.proofs.ByteLaws.{byte-of-part, past-first}
-use Rattle.roll.proofs.DecodeLaws.{other-size, other-order}
+use Rattle.commands.specs.declared.command.Command.the-variants.{Open, Sell, Cancel, Ball, Claim, Transfer}
+use Rattle.roll.specs.Decode.{commandRows, lookUp, rowOf}
+use Rattle.roll.specs.Orders.{operandBytes, decodedBy}
+use Rattle.roll.specs.declared.decode.Decoded.the-variants.{Whole}
+use Rattle.roll.proofs.DecodeLaws.{other-row}
 use Rattle.roll.proofs.decode.order_at.Statement.{statement}
 use Rattle.roll.proofs.decode.order_at.Tie as tie
 
 -- the row of a byte that is known to be k
-row : (byte k : ℕ) (l : List ℕ) → byte ≡ k → orderOf k (take (operandBytes k) l) ≡ orderOf byte (take (operandBytes byte) l)
-row byte k l same = sym (ap (λ b. orderOf b (take (operandBytes b) l)) same)
+row : (byte k : ℕ) (l : List ℕ) (size : ℕ) → byte ≡ k → decodedBy (rowOf k) l size ≡ decodedBy (rowOf byte) l size
+row byte k l size same = sym (ap (λ b. decodedBy (rowOf b) l size) same)
 
 -- the first byte of a part
 first-byte : (k : ℕ) (l : List ℕ) (at : ℕ) → getD l at 0 ≡ getD (take (k + 1) (drop at l)) 0 0
@@ -26,78 +27,85 @@ first-byte k l at =
     ap (λ i. getD l i 0) here ∙ sym (byte-of-part (k + 1) l at 0 (omega arith))
 
 read-u16-requires : tie.Need-read-u16-requires
-unfolding operandBytes
+unfolding commandRows lookUp
 read-u16-requires c κs = omega (arith, ap operandBytes (c .match .keys1))
 
 sale-at-requires : tie.Need-sale-at-requires
-unfolding operandBytes
+unfolding commandRows lookUp
 sale-at-requires c κs = omega (arith, ap operandBytes (c .match .keys2))
 
 read-u32-requires : tie.Need-read-u32-requires
-unfolding operandBytes
+unfolding commandRows lookUp
 read-u32-requires c κs = omega (arith, ap operandBytes (c .match .keys3))
 
-shared-slice-read-t9 : tie.Need-shared-slice-read-t9
-unfolding operandBytes
-shared-slice-read-t9 c = omega (arith, ap operandBytes (c .before .match .keys4))
+shared-slice-read-t13 : tie.Need-shared-slice-read-t13
+unfolding commandRows lookUp
+shared-slice-read-t13 c = omega (arith, ap operandBytes (c .before .match .keys4))
 
 read-u32-requires-2 : tie.Need-read-u32-requires-2
-unfolding operandBytes
+unfolding commandRows lookUp
 read-u32-requires-2 c κs = omega (arith, ap operandBytes (c .match .keys5))
 
-shared-slice-read-t12 : tie.Need-shared-slice-read-t12
-shared-slice-read-t12 c = omega (arith, other-size (c .before .before .before .args .byte) (c .before .match .rest))
+shared-slice-read-t19 : tie.Need-shared-slice-read-t19
+unfolding commandRows lookUp
+shared-slice-read-t19 c = omega (arith, ap operandBytes (c .before .match .keys7))
 
 add-read-u32 : tie.Need-add-read-u32
 add-read-u32 c = search needs
 
 read-u32-requires-3 : tie.Need-read-u32-requires-3
-read-u32-requires-3 c κs = omega (arith, other-size (c .before .before .before .args .byte) (c .before .match .rest))
+unfolding commandRows lookUp
+read-u32-requires-3 c κs = omega (arith, ap operandBytes (c .before .match .keys7))
 
 returns : tie.Need-returns
-unfolding orderOf operandBytes
+unfolding commandRows lookUp
 returns c =
     let args = c .before .before .before .args in
-    ap Open (c .read-u16 .ensures) ∙ row (args .byte) 1 (drop (args .at) (args .roll .now)) (c .before .match .keys1)
+    ap (λ command. Whole command (args .size)) (ap Open (c .read-u16 .ensures)) ∙ row (args .byte) 1 (drop (args .at) (args .roll .now)) (args .size) (c .before .match .keys1)
 
 returns-2 : tie.Need-returns-2
-unfolding orderOf operandBytes
+unfolding commandRows lookUp
 returns-2 c =
     let args = c .before .before .before .args in
-    ap Sell (c .sale-at .ensures) ∙ row (args .byte) 2 (drop (args .at) (args .roll .now)) (c .before .match .keys2)
+    ap (λ command. Whole command (args .size)) (ap Sell (c .sale-at .ensures)) ∙ row (args .byte) 2 (drop (args .at) (args .roll .now)) (args .size) (c .before .match .keys2)
 
 returns-3 : tie.Need-returns-3
-unfolding orderOf operandBytes
+unfolding commandRows lookUp
 returns-3 c =
     let args = c .before .before .before .args in
-    ap Cancel (c .read-u32 .ensures) ∙ row (args .byte) 3 (drop (args .at) (args .roll .now)) (c .before .match .keys3)
+    ap (λ command. Whole command (args .size)) (ap Cancel (c .read-u32 .ensures)) ∙ row (args .byte) 3 (drop (args .at) (args .roll .now)) (args .size) (c .before .match .keys3)
 
 returns-4 : tie.Need-returns-4
-unfolding orderOf operandBytes
+unfolding commandRows lookUp
 returns-4 c =
     let args = c .before .before .before .args in
-    ap Ball (first-byte 0 (args .roll .now) (args .at)) ∙ row (args .byte) 4 (drop (args .at) (args .roll .now)) (c .before .match .keys4)
+    ap (λ command. Whole command (args .size)) (ap Ball (first-byte 0 (args .roll .now) (args .at))) ∙ row (args .byte) 4 (drop (args .at) (args .roll .now)) (args .size) (c .before .match .keys4)
 
 returns-5 : tie.Need-returns-5
-unfolding orderOf operandBytes
+unfolding commandRows lookUp
 returns-5 c =
     let args = c .before .before .before .args in
-    ap Claim (c .read-u322 .ensures) ∙ row (args .byte) 5 (drop (args .at) (args .roll .now)) (c .before .match .keys5)
+    ap (λ command. Whole command (args .size)) (ap Claim (c .read-u322 .ensures)) ∙ row (args .byte) 5 (drop (args .at) (args .roll .now)) (args .size) (c .before .match .keys5)
 
 returns-6 : tie.Need-returns-6
-unfolding orderOf operandBytes
+unfolding commandRows lookUp
 returns-6 c =
     let args = c .before .before .args in
-    row (args .byte) 6 (drop (args .at) (args .roll .now)) (c .match .keys6)
+    row (args .byte) 6 (drop (args .at) (args .roll .now)) (args .size) (c .match .keys6)
 
 returns-7 : tie.Need-returns-7
+unfolding commandRows lookUp
 returns-7 c =
     let args = c .before .before .before .before .args in
     let l = args .roll .now in
-    let none = c .before .before .match .rest in
-    ap₂ Transfer (first-byte 4 l (args .at))
-    (c .read-u323 .ensures ∙ ap numberOf (sym (past-first 1 5 (drop (args .at) l) ∙ ap (take 4) (drop-drop 1 (args .at) l))))
-    ∙ sym (ap (λ n. orderOf (args .byte) (take n (drop (args .at) l))) (other-size (args .byte) none) ∙ other-order (args .byte) (take 5 (drop (args .at) l)) none)
+    let cents = c .read-u323 .ensures ∙ ap numberOf (sym (past-first 1 5 (drop (args .at) l) ∙ ap (take 4) (drop-drop 1 (args .at) l))) in
+    ap (λ command. Whole command (args .size)) (ap₂ Transfer (first-byte 4 l (args .at)) cents)
+    ∙ row (args .byte) 7 (drop (args .at) l) (args .size) (c .before .before .match .keys7)
+
+returns-8 : tie.Need-returns-8
+returns-8 c =
+    let args = c .before .before .args in
+    sym (ap (λ looked. decodedBy looked (drop (args .at) (args .roll .now)) (args .size)) (other-row (args .byte) (c .match .rest)))
 
 pub order-at-spec : {M : Type 1} → statement M
 order-at-spec =
@@ -106,9 +114,9 @@ order-at-spec =
     read-u16-requires
     sale-at-requires
     read-u32-requires
-    shared-slice-read-t9
+    shared-slice-read-t13
     read-u32-requires-2
-    shared-slice-read-t12
+    shared-slice-read-t19
     add-read-u32
     read-u32-requires-3
     returns
@@ -117,4 +125,5 @@ order-at-spec =
     returns-4
     returns-5
     returns-6
-    returns-7)
+    returns-7
+    returns-8)

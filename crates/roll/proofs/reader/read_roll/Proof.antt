@@ -16,9 +16,9 @@ use Rattle.house.specs.declared.answer.Answer.{Answer}
 use Rattle.house.specs.declared.state.House.{House}
 use Rattle.commands.specs.declared.command.Command.{Command}
 use Rattle.house.proofs.Theorem.{reached-step}
-use Rattle.roll.specs.Decode.{operandBytes, recordOf}
+use Rattle.roll.specs.Decode.{recordOf}
 use Rattle.roll.specs.Reading.{Reading, AllRefused}
-use Rattle.roll.specs.Orders.{stopOf, readingOf, Reported}
+use Rattle.roll.specs.Orders.{operandBytes, stopOf, readingOf, Reported}
 use Rattle.roll.specs.declared.reader.Report.{Report}
 use Rattle.roll.specs.declared.decode.Decoded.the-variants.{Stop}
 use Rattle.roll.proofs.DecodeLaws.{Stands, stands}
