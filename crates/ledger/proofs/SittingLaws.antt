@@ -10,7 +10,7 @@ use lib.ListN.{length, take, drop, length-drop}
 use borrow.Author.Tests.{ltb-true, ltb-false}
 use Rattle.house.specs.Model.{Model}
 use Rattle.house.specs.Commands.{Command, step}
-use Rattle.roll.specs.Decode.{Lookup, unknown, known, rowOf, commandOf, recordOf}
+use Rattle.roll.specs.Decode.{CommandByte, unknown, known, commandRow, commandOf, recordOf}
 use Rattle.roll.specs.Reading.{Reading, stopped, answered, turnAt, readTurns, readRoll}
 pub use Rattle.roll.proofs.RollsBalanced.{fresh-reached}
 
@@ -25,7 +25,7 @@ one-turn :
     → P (answered (1 + size) c answer (readTurns turns m′ (drop size rest) (drop 14 book))))
     → P (readTurns (suc turns) m (byte ∷ rest) book)
 unfolding readTurns
-one-turn P turns m byte rest book one two three more = go (rowOf byte)
+one-turn P turns m byte rest book one two three more = go (commandRow byte)
   where
     room :
         (short full : Bool) (next : Reading)
@@ -36,7 +36,7 @@ one-turn P turns m byte rest book one two three more = go (rowOf byte)
     room false true next e p = three (ltb-true (length book) 14 e)
     room false false next e p = p (ltb-false (length book) 14 e)
 
-    go : (looked : Lookup) → P (turnAt (readTurns turns) m byte rest book looked)
+    go : (looked : CommandByte) → P (turnAt (readTurns turns) m byte rest book looked)
     go unknown = one
     go (known row) =
         let c = commandOf row (take (row .operands) rest) in

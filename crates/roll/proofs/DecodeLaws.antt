@@ -15,7 +15,7 @@ use Rattle.numbers.proofs.ByteLaws.{part-of-first, byte-of-part}
 use Rattle.house.proofs.Ledger.{All}
 use Rattle.commands.specs.Meant.{meant}
 use Rattle.commands.specs.declared.command.Command.{Command}
-use Rattle.roll.specs.Decode.{CommandRow, commandRows, Lookup, unknown, known, lookUp, rowOf, saleIn, commandOf}
+use Rattle.roll.specs.Decode.{CommandRow, commandRows, CommandByte, unknown, known, rowAmong, commandRow, saleIn, commandOf}
 use Rattle.roll.specs.Orders.{operandsBy, operandBytes, decodedBy, lentMarks, decodedAt}
 use Rattle.roll.specs.declared.decode.Decoded.the-variants.{Whole, Stop}
 
@@ -26,8 +26,8 @@ abbrev pub Other : ℕ → Type 0
 Other byte =
     ((((((Unit {0} × (byte ≡ 1 → ⊥)) × (byte ≡ 2 → ⊥)) × (byte ≡ 3 → ⊥)) × (byte ≡ 4 → ⊥)) × (byte ≡ 5 → ⊥)) × (byte ≡ 6 → ⊥)) × (byte ≡ 7 → ⊥)
 
-pub other-row : (byte : ℕ) → Other byte → rowOf byte ≡ unknown
-unfolding commandRows lookUp
+pub other-row : (byte : ℕ) → Other byte → commandRow byte ≡ unknown
+unfolding commandRows rowAmong
 other-row byte none =
     rw (
       ne-eqb byte 1 (none .0 .0 .0 .0 .0 .0 .1),
@@ -40,23 +40,23 @@ other-row byte none =
     )
 
 -- the row that is found for a byte has that byte, and what holds of each row
-found : (P : CommandRow → Type 0) (rows : List CommandRow) → All P rows → (byte : ℕ) (row : CommandRow) → lookUp rows byte ≡ known row → (row .byte ≡ byte) × P row
-unfolding lookUp
+found : (P : CommandRow → Type 0) (rows : List CommandRow) → All P rows → (byte : ℕ) (row : CommandRow) → rowAmong rows byte ≡ known row → (row .byte ≡ byte) × P row
+unfolding rowAmong
 found P [] each byte row e = let z : _≡_ {A = ℕ} 0 1 = cc in absurd (omega arith)
 found P (first ∷ rows) (this, later) byte row e = go (eqb byte (first .byte)) (found P rows later byte row) refl e
   where
     go :
         (same : Bool)
-        → (lookUp rows byte ≡ known row → (row .byte ≡ byte) × P row)
+        → (rowAmong rows byte ≡ known row → (row .byte ≡ byte) × P row)
         → eqb byte (first .byte) ≡ same
-        → cond same (known first) (lookUp rows byte) ≡ known row
+        → cond same (known first) (rowAmong rows byte) ≡ known row
         → (row .byte ≡ byte) × P row
     go true further p q =
         let r : first ≡ row = cc in
         subst (λ (x : CommandRow). (x .byte ≡ byte) × P x) r (sym (eqb-true byte (first .byte) p), this)
     go false further p q = further q
 
-pub row-found : (P : CommandRow → Type 0) → All P commandRows → (byte : ℕ) (row : CommandRow) → rowOf byte ≡ known row → (row .byte ≡ byte) × P row
+pub row-found : (P : CommandRow → Type 0) → All P commandRows → (byte : ℕ) (row : CommandRow) → commandRow byte ≡ known row → (row .byte ≡ byte) × P row
 row-found P each = found P commandRows each
 
 -- a decoded command, with Sell's marks beside it, is the command that the bytes stand for
@@ -64,7 +64,7 @@ rows-meant : All (λ row. (bytes : List ℕ) → meant (row .decoded bytes) (len
 unfolding commandRows
 rows-meant = (λ _. refl, (λ _. refl, (λ _. refl, (λ _. refl, (λ _. refl, (λ _. refl, (λ _. refl, tt)))))))
 
-pub order-meant : (byte : ℕ) (row : CommandRow) (bytes : List ℕ) → rowOf byte ≡ known row → meant (row .decoded bytes) (lentMarks byte bytes) ≡ commandOf row bytes
+pub order-meant : (byte : ℕ) (row : CommandRow) (bytes : List ℕ) → commandRow byte ≡ known row → meant (row .decoded bytes) (lentMarks byte bytes) ≡ commandOf row bytes
 order-meant byte row bytes e =
     let here = row-found (λ row. (bytes : List ℕ) → meant (row .decoded bytes) (lentMarks (row .byte) bytes) ≡ commandOf row bytes) rows-meant byte row e in
     ap (λ b. meant (row .decoded bytes) (lentMarks b bytes)) (sym (here .0)) ∙ here .1 bytes
@@ -106,7 +106,7 @@ module _ (l : List ℕ) (at : ℕ) (within : at < length l) where
 
   pub whole-there :
       operandBytes byte ≤ length l - (at + 1)
-      → decodedAt (drop at l) ≡ decodedBy (rowOf byte) (drop (at + 1) l) (operandBytes byte + 1)
+      → decodedAt (drop at l) ≡ decodedBy (commandRow byte) (drop (at + 1) l) (operandBytes byte + 1)
   unfolding decodedAt
   whole-there enough =
       rw (
@@ -121,7 +121,7 @@ pub record Stands (roll : List ℕ) (order : Command) (size : ℕ) : Type 0 wher
   pub rest : List ℕ
   pub row : CommandRow
   pub begins : roll ≡ byte ∷ rest
-  pub has : rowOf byte ≡ known row
+  pub has : commandRow byte ≡ known row
   pub enough : row .operands ≤ length rest
   pub is : order ≡ row .decoded (take (row .operands) rest)
   pub long : size ≡ row .operands + 1
@@ -129,11 +129,11 @@ pub record Stands (roll : List ℕ) (order : Command) (size : ℕ) : Type 0 wher
 pub stands : (roll : List ℕ) (order : Command) (size : ℕ) → decodedAt roll ≡ Whole order size → Stands roll order size
 unfolding decodedAt
 stands [] order size e = let z : _≡_ {A = ℕ} 0 1 = cc in absurd (omega arith)
-stands (byte ∷ rest) order size e = go (rowOf byte) (ltb (length rest) (operandBytes byte)) refl refl e
+stands (byte ∷ rest) order size e = go (commandRow byte) (ltb (length rest) (operandBytes byte)) refl refl e
   where
     go :
-        (looked : Lookup) (short : Bool)
-        → rowOf byte ≡ looked
+        (looked : CommandByte) (short : Bool)
+        → commandRow byte ≡ looked
         → ltb (length rest) (operandsBy looked) ≡ short
         → cond short (Stop 2) (decodedBy looked rest (operandsBy looked + 1)) ≡ Whole order size
         → Stands (byte ∷ rest) order size

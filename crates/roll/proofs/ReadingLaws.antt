@@ -17,7 +17,7 @@ use Rattle.commands.specs.Meant.{meant}
 use Rattle.house.specs.declared.answer.Answer.{Answer}
 use Rattle.commands.specs.declared.command.Command.{Command}
 use Rattle.numbers.specs.Bytes.{bytesOf}
-use Rattle.roll.specs.Decode.{CommandRow, Lookup, unknown, known, rowOf, commandOf, recordOf}
+use Rattle.roll.specs.Decode.{CommandRow, CommandByte, unknown, known, commandRow, commandOf, recordOf}
 use Rattle.roll.specs.Reading.{Reading, stopped, answered, turnAt, readTurns, readRoll, AllRefused}
 use Rattle.roll.specs.Orders.{operandsBy, operandBytes, decodedBy, lentMarks, decodedAt, verdictOf}
 use Rattle.roll.specs.declared.decode.Decoded.the-variants.{Whole, Stop}
@@ -38,7 +38,7 @@ pub turn-stops :
     → readTurns (suc turns) m roll book ≡ stopped m code book
 unfolding decodedAt readTurns
 turn-stops turns m [] book code e = let same : 0 ≡ code = cc in ap (λ k. stopped m k book) same
-turn-stops turns m (byte ∷ rest) book code e = go (rowOf byte) e
+turn-stops turns m (byte ∷ rest) book code e = go (commandRow byte) e
   where
     short-stops :
         (short : Bool) (order : Command) (size : ℕ) (more : Reading)
@@ -48,7 +48,7 @@ turn-stops turns m (byte ∷ rest) book code e = go (rowOf byte) e
     short-stops false order size more e = let z : _≡_ {A = ℕ} 0 1 = cc in absurd (omega arith)
 
     go :
-        (looked : Lookup)
+        (looked : CommandByte)
         → cond (ltb (length rest) (operandsBy looked)) (Stop 2) (decodedBy looked rest (operandsBy looked + 1)) ≡ Stop code
         → turnAt (readTurns turns) m byte rest book looked ≡ stopped m code book
     go unknown e =
@@ -60,7 +60,7 @@ turn-stops turns m (byte ∷ rest) book code e = go (rowOf byte) e
 -- a known command with all its bytes, and room for its answer
 turn-known :
     (turns : ℕ) (m : Model) (byte : ℕ) (rest book : List ℕ) (row : CommandRow)
-    → rowOf byte ≡ known row
+    → commandRow byte ≡ known row
     → row .operands ≤ length rest
     → 14 ≤ length book
     → readTurns (suc turns) m (byte ∷ rest) book
@@ -304,7 +304,7 @@ module _ (quiet : Type 0) (whole : Reading) (m : Model) (roll book : List ℕ) (
     command-byte = sym (ap (λ l. getD l 0 0) (s .begins)) ∙ first-byte roll read
 
     pub operands-within : read + 1 + operandBytes (getD roll read 0) ≤ length roll
-    operands-within = omega (arith, command-within, s .long, ap operandsBy (sym (ap rowOf command-byte) ∙ s .has))
+    operands-within = omega (arith, command-within, s .long, ap operandsBy (sym (ap commandRow command-byte) ∙ s .has))
 
     -- one more answer, its record written after the others
     module _ (marks : List ℕ) (room : done + 14 ≤ length book) (same : marks ≡ lentMarks (getD roll read 0) (take (operandBytes (getD roll read 0)) (drop (read + 1) roll))) where

@@ -13,7 +13,7 @@ use Rattle.house.specs.Commands.{Command, step}
 use Rattle.house.specs.Balance.{State, next, runFrom, Reached}
 use Rattle.house.proofs.Ledger.{All}
 use Rattle.house.proofs.Theorem.{till-balances, reached-step}
-use Rattle.roll.specs.Decode.{CommandRow, commandRows, Lookup, unknown, known, rowOf, commandOf, byteOf, recordOf}
+use Rattle.roll.specs.Decode.{CommandRow, commandRows, CommandByte, unknown, known, commandRow, commandOf, byteOf, recordOf}
 use Rattle.roll.specs.Reading.{Reading, stopped, turnAt, readTurns, readRoll}
 use Rattle.roll.specs.Balance.{Sitting, houseAfter, answeredIn, entriesTo, entriesFrom, entriesIn, RollsBalance}
 use Rattle.numbers.proofs.ByteLaws.{two-bytes-below}
@@ -59,18 +59,18 @@ by-turn :
     (P : Reading → Type 0) (turns : ℕ) (m : Model) (byte : ℕ) (rest book : List ℕ)
     → ((code : ℕ) → P (stopped m code book))
     → ((row : CommandRow)
-    → rowOf byte ≡ known row
+    → commandRow byte ≡ known row
     → P (answeredBy turns m book (1 + row .operands) (commandOf row (take (row .operands) rest)) byte (drop (row .operands) rest)))
     → P (readTurns (suc turns) m (byte ∷ rest) book)
 unfolding readTurns
-by-turn P turns m byte rest book stops answers = go (rowOf byte) refl
+by-turn P turns m byte rest book stops answers = go (commandRow byte) refl
   where
     room : (short full : Bool) (next : Reading) → P next → P (cond short (stopped m 2 book) (cond full (stopped m 3 book) next))
     room true full next p = stops 2
     room false true next p = stops 3
     room false false next p = p
 
-    go : (looked : Lookup) → rowOf byte ≡ looked → P (turnAt (readTurns turns) m byte rest book looked)
+    go : (looked : CommandByte) → commandRow byte ≡ looked → P (turnAt (readTurns turns) m byte rest book looked)
     go unknown e = stops 1
     go (known row) e = room (ltb (length rest) (row .operands)) (ltb (length book) 14) _ (answers row e)
 
@@ -93,7 +93,7 @@ rows-back : All (λ row. (bytes : List ℕ) → byteOf (commandOf row bytes) ≡
 unfolding commandRows
 rows-back = (λ _. refl, (λ _. refl, (λ _. refl, (λ _. refl, (λ _. refl, (λ _. refl, (λ _. refl, tt)))))))
 
-byte-back : (byte : ℕ) (row : CommandRow) (bytes : List ℕ) → rowOf byte ≡ known row → byteOf (commandOf row bytes) ≡ byte
+byte-back : (byte : ℕ) (row : CommandRow) (bytes : List ℕ) → commandRow byte ≡ known row → byteOf (commandOf row bytes) ≡ byte
 byte-back byte row bytes e =
     let here = row-found (λ row. (bytes : List ℕ) → byteOf (commandOf row bytes) ≡ row .byte) rows-back byte row e in
     here .1 bytes ∙ here .0
@@ -103,7 +103,7 @@ rows-short : All (λ row. (rest : List ℕ) → Small rest → ShortDay (command
 unfolding commandRows
 rows-short = (two-bytes-below, (λ _ _. tt, (λ _ _. tt, (λ _ _. tt, (λ _ _. tt, (λ _ _. tt, (λ _ _. tt, tt)))))))
 
-short-day : (byte : ℕ) (row : CommandRow) (rest : List ℕ) → rowOf byte ≡ known row → Small rest → ShortDay (commandOf row (take (row .operands) rest))
+short-day : (byte : ℕ) (row : CommandRow) (rest : List ℕ) → commandRow byte ≡ known row → Small rest → ShortDay (commandOf row (take (row .operands) rest))
 short-day byte row rest e small =
     row-found (λ row. (rest : List ℕ) → Small rest → ShortDay (commandOf row (take (row .operands) rest))) rows-short byte row e .1 rest small
 

@@ -48,16 +48,16 @@ commandRows =
     ∷ []
 
 -- what the table has for a byte
-pub data Lookup : Type 0 where
-  unknown : Lookup
-  known : CommandRow → Lookup
+pub data CommandByte : Type 0 where
+  unknown : CommandByte
+  known : CommandRow → CommandByte
 
-unfoldable pub lookUp : List CommandRow → ℕ → Lookup
-lookUp [] byte = unknown
-lookUp (row ∷ rows) byte = cond (eqb byte (row .byte)) (known row) (lookUp rows byte)
+unfoldable pub rowAmong : List CommandRow → ℕ → CommandByte
+rowAmong [] byte = unknown
+rowAmong (row ∷ rows) byte = cond (eqb byte (row .byte)) (known row) (rowAmong rows byte)
 
-abbrev pub rowOf : ℕ → Lookup
-rowOf byte = lookUp commandRows byte
+abbrev pub commandRow : ℕ → CommandByte
+commandRow byte = rowAmong commandRows byte
 
 -- the command that a row's operand bytes stand for, Sell's with the marks among them
 abbrev pub commandOf : CommandRow → List ℕ → Rattle.house.specs.Commands.Command

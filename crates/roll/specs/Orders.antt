@@ -8,7 +8,7 @@ use lib.ListN.{length, take}
 use Rattle.house.specs.declared.answer.Answer.{Answer}
 use Rattle.house.specs.declared.state.House.{House}
 use Rattle.house.specs.View.{view}
-use Rattle.roll.specs.Decode.{marksIn, Lookup, unknown, known, rowOf}
+use Rattle.roll.specs.Decode.{marksIn, CommandByte, unknown, known, commandRow}
 use Rattle.roll.specs.Reading.{Reading, readRoll, AllRefused}
 use Rattle.roll.specs.declared.decode.Decoded.{Decoded}
 use Rattle.roll.specs.declared.decode.Decoded.the-variants.{Whole, Stop}
@@ -17,15 +17,15 @@ use Rattle.roll.specs.declared.reader.Verdict.{Verdict}
 use Rattle.roll.specs.declared.reader.Verdict.the-variants.{Accepted, Refused}
 
 -- how many operand bytes follow a command byte: none behind an unknown one
-abbrev pub operandsBy : Lookup → ℕ
+abbrev pub operandsBy : CommandByte → ℕ
 operandsBy unknown = 0
 operandsBy (known row) = row .operands
 
 abbrev pub operandBytes : ℕ → ℕ
-operandBytes byte = operandsBy (rowOf byte)
+operandBytes byte = operandsBy (commandRow byte)
 
 -- a command of so many bytes from its row and what follows its byte; an unknown byte is none
-abbrev pub decodedBy : Lookup → List ℕ → ℕ → Decoded
+abbrev pub decodedBy : CommandByte → List ℕ → ℕ → Decoded
 decodedBy unknown rest size = Stop 1
 decodedBy (known row) rest size = Whole (row .decoded (take (row .operands) rest)) size
 
@@ -37,7 +37,7 @@ lentMarks byte bytes = cond (eqb byte 2) (marksIn bytes) []
 unfoldable pub decodedAt : List ℕ → Decoded
 decodedAt [] = Stop 0
 decodedAt (byte ∷ rest) =
-    cond (ltb (length rest) (operandBytes byte)) (Stop 2) (decodedBy (rowOf byte) rest (operandBytes byte + 1))
+    cond (ltb (length rest) (operandBytes byte)) (Stop 2) (decodedBy (commandRow byte) rest (operandBytes byte + 1))
 
 -- the stop code of what is no whole command
 abbrev pub stopOf : Decoded → ℕ

@@ -10,7 +10,7 @@ use lib.Dec.{ltb}
 use lib.ListN.{length, take, drop}
 use Rattle.house.specs.Model.{Model}
 use Rattle.house.specs.Commands.{Command, step}
-use Rattle.roll.specs.Decode.{Lookup, unknown, known, rowOf, commandOf, recordOf}
+use Rattle.roll.specs.Decode.{CommandByte, unknown, known, commandRow, commandOf, recordOf}
 
 -- the house after a roll, the report, the commands that were answered, and the whole book
 pub record Reading : Type 0 where
@@ -38,7 +38,7 @@ answered bytes c answer r =
     }
 
 -- What one turn does at a byte, by what the table has for it. `later` reads what is left behind an answered command.
-abbrev pub turnAt : (Model → List ℕ → List ℕ → Reading) → Model → ℕ → List ℕ → List ℕ → Lookup → Reading
+abbrev pub turnAt : (Model → List ℕ → List ℕ → Reading) → Model → ℕ → List ℕ → List ℕ → CommandByte → Reading
 turnAt later m byte rest book unknown = stopped m 1 book
 turnAt later m byte rest book (known row) =
     let size = row .operands in
@@ -53,7 +53,7 @@ turnAt later m byte rest book (known row) =
 unfoldable pub readTurns : ℕ → Model → List ℕ → List ℕ → Reading
 readTurns zero m roll book = stopped m 0 book
 readTurns (suc turns) m [] book = stopped m 0 book
-readTurns (suc turns) m (byte ∷ rest) book = turnAt (readTurns turns) m byte rest book (rowOf byte)
+readTurns (suc turns) m (byte ∷ rest) book = turnAt (readTurns turns) m byte rest book (commandRow byte)
 
 abbrev pub readRoll : Model → List ℕ → List ℕ → Reading
 readRoll m roll book = readTurns (length roll + 1) m roll book

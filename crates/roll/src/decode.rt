@@ -6,7 +6,7 @@ use sale::terms::Sale;
 ghost use mathlib.Core.Path.{_≡_};
 ghost use Prim.Native.Nat.{_+_, _≤_};
 ghost use lib.ListN.{length, take, drop};
-ghost use Rattle.roll.specs.Decode.{saleIn, rowOf};
+ghost use Rattle.roll.specs.Decode.{saleIn, commandRow};
 ghost use Rattle.roll.specs.Orders.{operandBytes, decodedBy, decodedAt};
 
 // A whole command with its length, its command byte included; or the stop code where there is none. Sell's marks stay in the roll.
@@ -49,7 +49,7 @@ fn operand_bytes(byte: u8) -> usize
 // The command of so many bytes whose operands start at a place; an unknown byte is none.
 fn order_at(byte: u8, roll: &[u8], at: usize, size: usize) -> Decoded
     requires { ⌜ at + operandBytes byte ≤ length (now roll) ⌝ }
-    ensures { λ r. ⌜ r ≡ decodedBy (rowOf byte) (drop at (now (roll .entry))) size ⌝ }
+    ensures { λ r. ⌜ r ≡ decodedBy (commandRow byte) (drop at (now (roll .entry))) size ⌝ }
 {
     match byte {
         1 => Decoded::Whole(Command::Open(read_u16(roll, at)), size),

@@ -3,7 +3,7 @@ use Prim.Native.Nat.{_+_, _-_, _≤_, _<_}
 use mathlib.Core.Path.{sym, ap, subst, _∙_}
 use lib.ListN.{length, getD, drop, drop-of-length-le}
 use borrow.Author.Needs.{needs}
-use Rattle.roll.specs.Decode.{rowOf}
+use Rattle.roll.specs.Decode.{commandRow}
 use Rattle.roll.specs.Orders.{decodedBy, decodedAt}
 use Rattle.roll.proofs.DecodeLaws.{short-there, whole-there}
 use Rattle.roll.proofs.decode.decode.Statement.{statement}
@@ -45,7 +45,7 @@ returns-3 c =
     let at = start .args .at in
     let size = c .before .before .operand-bytes .ensures in
     c .order-at .ensures
-    ∙ ap (λ n. decodedBy (rowOf (getD l at 0)) (drop (at + 1) l) (n + 1)) size
+    ∙ ap (λ n. decodedBy (commandRow (getD l at 0)) (drop (at + 1) l) (n + 1)) size
     ∙ sym (whole-there l at (c .before .before .before .before .if1 .left) (subst (λ n. n ≤ length l - (at + 1)) size (c .before .if2 .left)))
 
 pub decode-spec : {M : Type 1} → statement M

@@ -9,7 +9,7 @@ use borrow.Author.Needs.{needs}
 use Rattle.numbers.specs.Bytes.{numberOf}
 use Rattle.numbers.proofs.ByteLaws.{byte-of-part, past-first}
 use Rattle.commands.specs.declared.command.Command.the-variants.{Open, Sell, Cancel, Ball, Claim, Transfer}
-use Rattle.roll.specs.Decode.{commandRows, lookUp, rowOf}
+use Rattle.roll.specs.Decode.{commandRows, rowAmong, commandRow}
 use Rattle.roll.specs.Orders.{operandBytes, decodedBy}
 use Rattle.roll.specs.declared.decode.Decoded.the-variants.{Whole}
 use Rattle.roll.proofs.DecodeLaws.{other-row}
@@ -17,8 +17,8 @@ use Rattle.roll.proofs.decode.order_at.Statement.{statement}
 use Rattle.roll.proofs.decode.order_at.Tie as tie
 
 -- the row of a byte that is known to be k
-row : (byte k : ℕ) (l : List ℕ) (size : ℕ) → byte ≡ k → decodedBy (rowOf k) l size ≡ decodedBy (rowOf byte) l size
-row byte k l size same = sym (ap (λ b. decodedBy (rowOf b) l size) same)
+row : (byte k : ℕ) (l : List ℕ) (size : ℕ) → byte ≡ k → decodedBy (commandRow k) l size ≡ decodedBy (commandRow byte) l size
+row byte k l size same = sym (ap (λ b. decodedBy (commandRow b) l size) same)
 
 -- the first byte of a part
 first-byte : (k : ℕ) (l : List ℕ) (at : ℕ) → getD l at 0 ≡ getD (take (k + 1) (drop at l)) 0 0
@@ -27,74 +27,74 @@ first-byte k l at =
     ap (λ i. getD l i 0) here ∙ sym (byte-of-part (k + 1) l at 0 (omega arith))
 
 read-u16-requires : tie.Need-read-u16-requires
-unfolding commandRows lookUp
+unfolding commandRows rowAmong
 read-u16-requires c κs = omega (arith, ap operandBytes (c .match .keys1))
 
 sale-at-requires : tie.Need-sale-at-requires
-unfolding commandRows lookUp
+unfolding commandRows rowAmong
 sale-at-requires c κs = omega (arith, ap operandBytes (c .match .keys2))
 
 read-u32-requires : tie.Need-read-u32-requires
-unfolding commandRows lookUp
+unfolding commandRows rowAmong
 read-u32-requires c κs = omega (arith, ap operandBytes (c .match .keys3))
 
 shared-slice-read-t13 : tie.Need-shared-slice-read-t13
-unfolding commandRows lookUp
+unfolding commandRows rowAmong
 shared-slice-read-t13 c = omega (arith, ap operandBytes (c .before .match .keys4))
 
 read-u32-requires-2 : tie.Need-read-u32-requires-2
-unfolding commandRows lookUp
+unfolding commandRows rowAmong
 read-u32-requires-2 c κs = omega (arith, ap operandBytes (c .match .keys5))
 
 shared-slice-read-t19 : tie.Need-shared-slice-read-t19
-unfolding commandRows lookUp
+unfolding commandRows rowAmong
 shared-slice-read-t19 c = omega (arith, ap operandBytes (c .before .match .keys7))
 
 add-read-u32 : tie.Need-add-read-u32
 add-read-u32 c = search needs
 
 read-u32-requires-3 : tie.Need-read-u32-requires-3
-unfolding commandRows lookUp
+unfolding commandRows rowAmong
 read-u32-requires-3 c κs = omega (arith, ap operandBytes (c .before .match .keys7))
 
 returns : tie.Need-returns
-unfolding commandRows lookUp
+unfolding commandRows rowAmong
 returns c =
     let args = c .before .before .before .args in
     ap (λ command. Whole command (args .size)) (ap Open (c .read-u16 .ensures)) ∙ row (args .byte) 1 (drop (args .at) (args .roll .now)) (args .size) (c .before .match .keys1)
 
 returns-2 : tie.Need-returns-2
-unfolding commandRows lookUp
+unfolding commandRows rowAmong
 returns-2 c =
     let args = c .before .before .before .args in
     ap (λ command. Whole command (args .size)) (ap Sell (c .sale-at .ensures)) ∙ row (args .byte) 2 (drop (args .at) (args .roll .now)) (args .size) (c .before .match .keys2)
 
 returns-3 : tie.Need-returns-3
-unfolding commandRows lookUp
+unfolding commandRows rowAmong
 returns-3 c =
     let args = c .before .before .before .args in
     ap (λ command. Whole command (args .size)) (ap Cancel (c .read-u32 .ensures)) ∙ row (args .byte) 3 (drop (args .at) (args .roll .now)) (args .size) (c .before .match .keys3)
 
 returns-4 : tie.Need-returns-4
-unfolding commandRows lookUp
+unfolding commandRows rowAmong
 returns-4 c =
     let args = c .before .before .before .args in
     ap (λ command. Whole command (args .size)) (ap Ball (first-byte 0 (args .roll .now) (args .at))) ∙ row (args .byte) 4 (drop (args .at) (args .roll .now)) (args .size) (c .before .match .keys4)
 
 returns-5 : tie.Need-returns-5
-unfolding commandRows lookUp
+unfolding commandRows rowAmong
 returns-5 c =
     let args = c .before .before .before .args in
     ap (λ command. Whole command (args .size)) (ap Claim (c .read-u322 .ensures)) ∙ row (args .byte) 5 (drop (args .at) (args .roll .now)) (args .size) (c .before .match .keys5)
 
 returns-6 : tie.Need-returns-6
-unfolding commandRows lookUp
+unfolding commandRows rowAmong
 returns-6 c =
     let args = c .before .before .args in
     row (args .byte) 6 (drop (args .at) (args .roll .now)) (args .size) (c .match .keys6)
 
 returns-7 : tie.Need-returns-7
-unfolding commandRows lookUp
+unfolding commandRows rowAmong
 returns-7 c =
     let args = c .before .before .before .before .args in
     let l = args .roll .now in

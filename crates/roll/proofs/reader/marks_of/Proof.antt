@@ -6,7 +6,7 @@ use lib.ListN.{take, drop}
 use lib.Seq.{drop-drop}
 use borrow.Author.Needs.{needs}
 use borrow.Author.Tests.{ne-eqb}
-use Rattle.roll.specs.Decode.{commandRows, lookUp}
+use Rattle.roll.specs.Decode.{commandRows, rowAmong}
 use Rattle.roll.specs.Orders.{operandBytes, lentMarks}
 use Rattle.numbers.proofs.ByteLaws.{part-of-first}
 use Rattle.roll.proofs.reader.marks_of.Statement.{statement}
@@ -28,11 +28,11 @@ returns c =
     ap (λ n. take n (drop (args .at) (args .roll .now))) none ∙ rw (ne-eqb (args .byte) 2 (c .before .if1 .taken))
 
 add-start : tie.Need-add-start
-unfolding commandRows lookUp
+unfolding commandRows rowAmong
 add-start c = omega (arith, ap operandBytes (c .if1 .left))
 
 add-end : tie.Need-add-end
-unfolding commandRows lookUp
+unfolding commandRows rowAmong
 add-end c = omega (arith, ap operandBytes (c .if1 .left))
 
 sub-result-2 : tie.Need-sub-result-2
@@ -42,11 +42,11 @@ part-result-start-2 : tie.Need-part-result-start-2
 part-result-start-2 c = search needs
 
 part-result-end-2 : tie.Need-part-result-end-2
-unfolding commandRows lookUp
+unfolding commandRows rowAmong
 part-result-end-2 c = omega (arith, ap operandBytes (c .if1 .left))
 
 returns-2 : tie.Need-returns-2
-unfolding commandRows lookUp
+unfolding commandRows rowAmong
 returns-2 c =
     let args = c .before .before .args in
     let l = args .roll .now in
