@@ -8,7 +8,8 @@ use mathlib.Core.Path.{_≡_}
 use lib.ListN.{length, take, drop, getD}
 use lib.Seq.{sets}
 use Rattle.sale.specs.Lists.{below}
-use Rattle.house.specs.Tickets.{Ticket}
+use Rattle.sale.specs.Price.{chargeLimit}
+use Rattle.house.specs.Tickets.{Ticket, paidStakes}
 use Rattle.house.specs.Model.{Model, gameLimit}
 use Rattle.house.specs.declared.state.House.{House}
 use Rattle.house.specs.declared.rows.Row.{Row}
@@ -102,6 +103,14 @@ pub record MovesDown (from to : ℕ) : Type 0 where
 pub record RisingRows (words : List ℕ) (live : ℕ) : Type 0 where
   pub few : live ≤ 200
   pub rising : (j k : ℕ) → j < k → k < live → getD words (j * 16) 0 < getD words (k * 16) 0
+
+-- a row whose stakes of one game are within the most that a ticket can cost
+pub record Affordable (w : Row) : Type 0 where
+  pub within : w .stake * w .ways ≤ chargeLimit
+
+-- the same of the paid stakes of the games from one up to another
+pub record PaidWithin (from upto : ℕ) (w : Row) : Type 0 where
+  pub within : paidStakes from upto (ticketFrom w []) ≤ chargeLimit
 
 -- a list without the element at a place
 unfoldable pub without {ℓ} : {A : Type ℓ} → ℕ → List A → List A

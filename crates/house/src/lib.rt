@@ -2,3 +2,4 @@
 pub mod answer;
 pub mod rows;
 pub mod state;
+pub mod ticket;
