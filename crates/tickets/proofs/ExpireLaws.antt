@@ -1,19 +1,18 @@
--- Laws of Expire: which tickets have expired, what is left of a list of tickets as they are passed one by one, and the house without those that
+-- Laws of Expire: its code, what is left of a list of tickets as they are passed one by one, and the house without those that
 -- have.
 use Prim.Native.Nat.{ℕ, zero, suc, _+_, _≤_, _<_}
 use native.Mathlib.Nat.{add-zero, not-suc-le-zero, le-of-suc-le-suc}
 use native.Mathlib.Numerals.{add-one}
 use native.Mathlib.Omega.{arith}
 use mathlib.Core.Path.{_≡_, refl, sym, ap, _∙_}
-use mathlib.Core.Bool.{Bool, true, false, cond, not, _&&_}
+use mathlib.Core.Bool.{Bool, true, false, cond, not}
 use mathlib.Core.List.{List, [], _∷_, _++_, map, append-nil}
 use lib.ListN.{length, getD, set, take, drop, length-append}
 use lib.Seq.{take-suc, getD-drop, take-suc-set, drop-set-lt, drop-drop}
 use borrow.Author.Tests.{eq-eqb, ne-eqb, eqb-true}
 use Rattle.sale.specs.Lists.{sum, keep}
 use Rattle.sale.specs.Checks.{firstMet}
-use Rattle.prizes.specs.Expiry.{hasExpired}
-use Rattle.house.specs.Tickets.{Ticket, gamesLeft, isFinished, isLive, withDue}
+use Rattle.house.specs.Tickets.{Ticket, gamesLeft, isLive, withDue}
 use Rattle.house.specs.Model.{Model, fresh, withUnclaimed}
 use Rattle.house.specs.Commands.{blankTicket, expire, rowsOf, codeOf, stillLive, isExpired, expiring, expired}
 use Rattle.house.specs.View.{ticketsOf, view}
@@ -27,7 +26,7 @@ use Rattle.house.proofs.MoneyLaws.{sum-snoc}
 use Rattle.house.proofs.ReachedHouses.{Sure}
 use Rattle.house.proofs.ViewLaws.{live-count, view-live, view-by}
 
--- ---- the code, and the test
+-- ---- the code
 
 module _ (m : Model) where
   pub expire-closed : m .day ≡ 0 → codeOf m expire ≡ 4
@@ -37,24 +36,6 @@ module _ (m : Model) where
   pub expire-open : (m .day ≡ 0 → ⊥) → codeOf m expire ≡ 0
   unfolding codeOf rowsOf firstMet
   expire-open e = rw (ne-eqb (m .day) 0 e)
-
-and-not : (a b : Bool) → b ≡ false → false ≡ (a && b)
-and-not true b e = sym e
-and-not false b e = refl
-
-and-also : (a b : Bool) → b ≡ true → a ≡ (a && b)
-and-also true b e = sym e
-and-also false b e = refl
-
--- by a finishing day whose twelve months are not over, no ticket has expired
-pub in-time : (m : Model) (t : Ticket) → hasExpired (m .day) (t .finishedDay) ≡ false → false ≡ isExpired m t
-unfolding isExpired
-in-time m t e = and-not (isFinished (m .game) t) (hasExpired (m .day) (t .finishedDay)) e
-
--- by another, each that is finished
-pub late : (m : Model) (t : Ticket) → hasExpired (m .day) (t .finishedDay) ≡ true → isFinished (m .game) t ≡ isExpired m t
-unfolding isExpired
-late m t e = and-also (isFinished (m .game) t) (hasExpired (m .day) (t .finishedDay)) e
 
 -- a house of which only the game and the day count
 abbrev pub onDay : ℕ → ℕ → Model

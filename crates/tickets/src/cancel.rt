@@ -5,43 +5,27 @@ use house::answer::accepted;
 use house::answer::refused;
 use house::rows::Row;
 use house::rows::change_ticket;
-use house::rows::is_finished;
 use house::rows::read_row;
 use house::rows::remove_ticket;
 use house::state::House;
+use house::ticket::finished_on;
+use house::ticket::is_closed;
+use house::ticket::keno_to_go_begun;
+use house::ticket::paid_stakes;
 use numbers::order::max_u64;
-use numbers::order::min_u64;
-use sale::price::charge_of;
 ghost use mathlib.Core.Path.{_≡_};
-ghost use mathlib.Core.Bool.{not, _&&_, _||_};
+ghost use mathlib.Core.Bool.{not};
 ghost use mathlib.Core.List.{List};
-ghost use Prim.Native.Nat.{ℕ, _+_, _^_, _≤_, _<_};
-ghost use lib.Dec.{ltb, leb, eqb};
+ghost use Prim.Native.Nat.{ℕ, _+_, _≤_, _<_};
+ghost use lib.Dec.{eqb};
 ghost use lib.ListN.{take};
 ghost use Rattle.sale.specs.Checks.{firstMet};
-ghost use Rattle.house.specs.Model.{gameLimit, nextGame};
-ghost use Rattle.house.specs.Tickets.{isLive, paidStakes, withStop};
+ghost use Rattle.house.specs.Tickets.{withStop};
 ghost use Rattle.house.specs.Commands.{finishedOn, cancel};
 ghost use Rattle.house.specs.Balance.{Reached};
 ghost use Rattle.house.specs.View.{marksAt, ticketFrom, ticketsOf, view};
 ghost use Rattle.house.specs.Parts.{Carried};
 ghost use Rattle.tickets.specs.Steps.{cancelRows, replaced};
-
-// Whether a ticket of 50 games or more has begun.
-fn keno_to_go_begun(game: u64, drawn: u64, games: u64, first: u64) -> bool
-    ensures { λ r. ⌜ r ≡ (leb 50 games && (ltb first game || (eqb first game && not (eqb drawn 0)))) ⌝ }
-{
-    if games < 50 {
-        return false;
-    }
-    if first < game {
-        return true;
-    }
-    if first != game {
-        return false;
-    }
-    drawn != 0
-}
 
 // The refusal of a cancellation of a live ticket whose games from `stop` on would be taken off, or 0.
 fn cancel_code(house: House, row: Row, stop: u64) -> u8
@@ -50,7 +34,7 @@ fn cancel_code(house: House, row: Row, stop: u64) -> u8
     if row.sold < house.day {
         return 20;
     }
-    if keno_to_go_begun(house.game, house.drawn, row.games, row.first) {
+    if keno_to_go_begun(house.game, house.drawn != 0, row) {
         return 21;
     }
     if row.stop <= stop {
@@ -59,38 +43,12 @@ fn cancel_code(house: House, row: Row, stop: u64) -> u8
     0
 }
 
-// The paid stakes of a ticket's games from `stop` on.
-fn refund(row: Row, stop: u64) -> u64
-    requires { ⌜ (stop ≤ row .stop) × (row .free ≤ stop + 100) × (row .ways ≤ 255) × (row .stake < 2 ^ 32) ⌝ }
-    ensures { λ r. ⌜ ((marks : List ℕ) → r ≡ paidStakes stop (row .stop) (ticketFrom row marks)) ⌝ }
-{
-    let paid = min_u64(row.stop, row.free) - min_u64(stop, row.free);
-    charge_of(row.stake as u32, row.ways as u32, paid as u8)
-}
-
 // The row of a ticket whose games from `stop` on are taken off: one that is now finished gets its finishing day.
 fn cancelled_row(day: u64, game: u64, mut row: Row, stop: u64) -> Row
     ensures { λ r. ⌜ ((marks : List ℕ) → ticketFrom r marks ≡ finishedOn day game (withStop (ticketFrom row marks) stop)) ⌝ }
 {
     row.stop = stop;
-    if !is_finished(game, row.first, stop) {
-        return row;
-    }
-    if row.finished != 0 {
-        return row;
-    }
-    row.finished = day;
-    row
-}
-
-// Whether a ticket is finished with nothing due.
-fn is_closed(game: u64, row: Row) -> bool
-    ensures { λ r. ⌜ ((marks : List ℕ) → r ≡ not (isLive game (ticketFrom row marks))) ⌝ }
-{
-    if row.due != 0 {
-        return false;
-    }
-    is_finished(game, row.first, row.stop)
+    finished_on(day, game, row)
 }
 
 // Another row in the place of a live ticket's, or the ticket removed where the row is a closed one; answers how many are live then.
@@ -134,7 +92,7 @@ pub fn cancel_ticket(
     if code != 0 {
         return refused(house, code);
     }
-    let cents = refund(row, stop);
+    let cents = paid_stakes(stop, row.stop, row);
     let refunded = house.counters.refunded + cents;
     let cancelled = cancelled_row(house.day, house.game, row, stop);
     let live = replace_ticket(

@@ -4,10 +4,10 @@ use house::answer::Outcome;
 use house::answer::accepted;
 use house::answer::refused;
 use house::rows::Row;
-use house::rows::is_finished;
 use house::rows::read_row;
 use house::rows::remove_ticket;
 use house::state::House;
+use house::ticket::is_finished;
 ghost use mathlib.Core.Path.{_≡_};
 ghost use mathlib.Core.List.{List};
 ghost use Prim.Native.Nat.{ℕ};
@@ -22,7 +22,7 @@ ghost use Rattle.tickets.specs.Steps.{claimRows};
 fn claim_code(game: u64, row: Row) -> u8
     ensures { λ r. ⌜ ((marks : List ℕ) → r ≡ firstMet (claimRows game (ticketFrom row marks))) ⌝ }
 {
-    if !is_finished(game, row.first, row.stop) {
+    if !is_finished(game, row) {
         return 23;
     }
     if row.due == 0 {

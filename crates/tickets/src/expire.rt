@@ -2,18 +2,16 @@
 use house::answer::Outcome;
 use house::answer::accepted;
 use house::answer::refused;
-use house::rows::is_finished;
 use house::rows::move_ticket;
+use house::rows::read_row;
 use house::state::House;
-use prizes::expiry::has_expired;
-ghost use mathlib.Core.Path.{_≡_};
-ghost use mathlib.Core.List.{List, map};
-ghost use Prim.Native.Nat.{ℕ, _^_, _≤_, _<_};
+use house::ticket::is_expired;
+ghost use mathlib.Core.List.{map};
+ghost use Prim.Native.Nat.{_^_, _≤_, _<_};
 ghost use Rattle.sale.specs.Lists.{sum};
-ghost use Rattle.house.specs.Model.{Model};
-ghost use Rattle.house.specs.Commands.{isExpired, expire};
+ghost use Rattle.house.specs.Commands.{expire};
 ghost use Rattle.house.specs.Balance.{Reached};
-ghost use Rattle.house.specs.View.{ticketIn, view};
+ghost use Rattle.house.specs.View.{view};
 ghost use Rattle.house.specs.Parts.{Carried};
 ghost use Rattle.tickets.specs.Steps.{Swept};
 
@@ -21,18 +19,6 @@ ghost use Rattle.tickets.specs.Steps.{Swept};
 struct Sweep {
     left: usize,
     cents: u64,
-}
-
-// Whether the ticket at a place has expired. The day is tested first, since few tickets pass that test.
-fn row_expires(rows: &[u64; 3200], i: usize, game: u64, day: u64) -> bool
-    requires { ⌜ i < 200 ⌝ }
-    ensures { λ r. ⌜ ((m : Model) (marks : List ℕ) → m .game ≡ game → m .day ≡ day → r ≡ isExpired m (ticketIn (now (rows .entry)) marks i)) ⌝ }
-{
-    let at = i * 16;
-    if !has_expired(day, rows[at + 13]) {
-        return false;
-    }
-    is_finished(game, rows[at + 9], rows[at + 10])
 }
 
 // The live tickets without those that have expired: the others move down.
@@ -47,9 +33,9 @@ fn drop_expired(house: House, rows: &mut [u64; 3200], marks: &mut [u8; 16000]) -
     let mut cents: u64 = 0;
     let mut i: usize = 0;
     while i < live {
-        if row_expires(rows, i, game, day) {
-            let at = i * 16;
-            cents = cents + rows[at + 12];
+        let row = read_row(rows, i);
+        if is_expired(game, day, row) {
+            cents = cents + row.due;
             i += 1;
             continue;
         }

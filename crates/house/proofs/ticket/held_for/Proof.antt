@@ -1,5 +1,5 @@
 -- `house::ticket::held_for` meets its contract: the games that are left begin with the later of the first and the current one.
-use Prim.Native.Nat.{_≤_, max}
+use Prim.Native.Nat.{max}
 use mathlib.Core.Path.{_≡_, sym, ap, _∙_, subst}
 use native.Mathlib.Omega.{arith}
 use Rattle.house.specs.Tickets.{paidStakes}

@@ -10,18 +10,15 @@ use lib.ListN.{take}
 use borrow.Author.Needs.{needs}
 use Rattle.sale.specs.Price.{chargeLimit}
 use Rattle.sale.specs.Checks.{firstMet}
-use Rattle.sale.proofs.WayLaws.{ways-few}
 use Rattle.house.specs.Tickets.{Ticket, paidStakes, withStop}
 use Rattle.house.specs.Model.{withRefunded}
 use Rattle.house.specs.Commands.{changed, stillLive, finishedOn, lookupRows, cancelStop, cancelledTicket, cancel, rowsOf, codeOf, refundOf, cancelled, act, reply}
 use Rattle.house.specs.Till.{tillOf}
-use Rattle.house.specs.View.{rowOf, marksAt, ticketFrom, ticketIn, ticketsOf, view}
+use Rattle.house.specs.View.{rowOf, marksAt, ticketFrom, ticketIn, ticketsOf, PaidWithin, view}
 use Rattle.tickets.specs.Steps.{cancelRows, replaced}
 use Rattle.house.specs.declared.state.House.{House}
-use Rattle.house.specs.declared.rows.Row.{Row}
 use Rattle.house.proofs.Ledger.{Kept, withLive}
 use Rattle.house.proofs.Refusals.{cancel-accepted}
-use Rattle.house.proofs.SheetFigures.{paid-games-within}
 use Rattle.house.proofs.Bounded.{span-paid-within}
 use Rattle.house.proofs.ReachedHouses.{reached-sure}
 use Rattle.house.proofs.ViewLaws.{carried-refused, carried-done, view-drawing, view-by}
@@ -45,23 +42,6 @@ paidBack h live cents =
       eight = h .eight;
       counters = withRefunded cents (h .counters);
     }
-
--- what the code that works out a refund asks of the row
-abbrev Refundable : Row → ℕ → Type 0
-Refundable row stop = (stop ≤ row .stop) × (row .free ≤ stop + 100) × (row .ways ≤ 255) × (row .stake < 2 ^ 32)
-
-refundable : (game stop : ℕ) (row : Row) (marks : List ℕ) → Kept game (ticketFrom row marks) → row .first ≤ stop → stop < row .stop → Refundable row stop
-refundable game stop row marks kept begun some =
-    let operands = kept .fixed .playable in
-    omega (
-      arith,
-      kept .fixed .freeFrom,
-      kept .fixed .counted,
-      paid-games-within (row .games),
-      operands .fewGames,
-      ways-few (row .types) (operands .groups),
-      operands .stake,
-    )
 
 -- where Cancel cuts off the ticket at a place, and what it pays back
 abbrev stopIn : House → List ℕ → List ℕ → ℕ → ℕ
@@ -90,16 +70,18 @@ module _ {h : House} {words marks : List ℕ} {n p : ℕ} (found : FoundTicket h
     some : stopIn h words marks p < ticketIn words marks p .stop
     some = subst (λ t. cancelStop (view h words marks) t < t .stop) (found-ticket found) (cancel-accepted (view h words marks) n passed .some)
 
-    refund-fits : Refundable (rowOf words (p * 16)) (stopIn h words marks p)
-    refund-fits = refundable (h .game) (stopIn h words marks p) (rowOf words (p * 16)) (marksAt marks p) kept (omega arith) some
+    refund-within : refundIn h words marks p ≤ chargeLimit
+    refund-within = span-paid-within (h .game) (stopIn h words marks p) (ticketIn words marks p .stop) (ticketIn words marks p) kept (omega arith)
+
+    refund-fits : PaidWithin (stopIn h words marks p) (rowOf words (p * 16) .stop) (rowOf words (p * 16))
+    unfolding paidStakes
+    refund-fits = record { within = refund-within }
 
     room : h .counters .refunded + refundIn h words marks p < 2 ^ 63
     unfolding tillOf view
     room =
-        let cents : refundIn h words marks p ≤ chargeLimit =
-        span-paid-within (h .game) (stopIn h words marks p) (ticketIn words marks p .stop) (ticketIn words marks p) kept (omega arith) in
         let refunded : h .counters .refunded < 2 ^ 62 = found .sure .fit .figures .refunded in
-        omega arith
+        omega (arith, refund-within)
 
     cut-off : min (ticketIn words marks p .stop) (stopIn h words marks p) ≡ stopIn h words marks p
     cut-off = omega (arith, some)
@@ -163,9 +145,9 @@ code-at c =
     (sym (c .before .before .before .read-row .ensures)) (sym (stop-at (c .before)))
     ∙ sym (c .cancel-code .ensures (own found))
 
-cents-at : (c : tie.After-refund) → c .refund .result ≡ by-place refundIn (c .before .before .before .before .before .before .before)
+cents-at : (c : tie.After-paid-stakes) → c .paid-stakes .result ≡ by-place refundIn (c .before .before .before .before .before .before .before)
 cents-at c =
-    c .refund .ensures (own (c .before .before .before .before .before .before .before))
+    c .paid-stakes .ensures (own (c .before .before .before .before .before .before .before))
     ∙ ap₂ (λ row stop. paidStakes stop (row .stop) (ticketFrom row (own (c .before .before .before .before .before .before .before)))) (c .before .before .before .before .before .read-row .ensures) (stop-at (c .before .before .before))
 
 ticket-at : (c : tie.After-cancelled-row) → ticketFrom (c .cancelled-row .result) (own (c .before .before .before .before .before .before .before .before .before)) ≡ by-place cancelledIn (c .before .before .before .before .before .before .before .before .before)
@@ -213,11 +195,11 @@ returns-2 c =
     carried-refused (args .house) (args .rows .now) (args .marks .now) (cancel (args .ticket)) (c .before .before .cancel-code .result) _ _
     (code-at (c .before .before)) (c .before .if2 .taken) (c .refused2 .ensures .0) (c .refused2 .ensures .1)
 
-refund-requires : tie.Need-refund-requires
-refund-requires c κs =
+paid-stakes-requires : tie.Need-paid-stakes-requires
+paid-stakes-requires c κs =
     let found = c .before .before .before .before .before .before in
-    subst⁻¹ (λ row. Refundable row (c .before .before .max-u64 .result)) (c .before .before .before .before .read-row .ensures)
-    (subst⁻¹ (Refundable (rowOf (start found .args .rows .now) (place found * 16))) (stop-at (c .before .before))
+    subst⁻¹ (λ row. PaidWithin (c .before .before .max-u64 .result) (row .stop) row) (c .before .before .before .before .read-row .ensures)
+    (subst⁻¹ (λ stop. PaidWithin stop (rowOf (start found .args .rows .now) (place found * 16) .stop) (rowOf (start found .args .rows .now) (place found * 16))) (stop-at (c .before .before))
     (refund-fits (found-at found) (code-at (c .before) ∙ c .if2 .left)))
 
 add-refunded : tie.Need-add-refunded
@@ -268,7 +250,7 @@ cancel-ticket-spec =
     cancel-code-requires
     refused-requires-2
     returns-2
-    refund-requires
+    paid-stakes-requires
     add-refunded
     cancelled-row-requires
     replace-ticket-requires
