@@ -1,17 +1,16 @@
 -- Laws of the end of a game: a ticket that closes or moves down, and what the places of a table that hold the spread awards make of the live
 -- tickets.
-use Prim.Native.Nat.{ℕ, _+_, _-_, _≤_, _<_, max}
+use Prim.Native.Nat.{ℕ, _+_, _≤_, _<_}
 use mathlib.Core.Path.{_≡_, refl, sym, ap, _∙_}
-use mathlib.Core.Bool.{Bool, true, false, cond, not, _&&_}
+use mathlib.Core.Bool.{Bool, true, false, _&&_}
 use mathlib.Core.List.{List, [], _∷_, _++_, map, zipWith, append-nil, map-map}
 use native.Mathlib.Nat.{add-zero}
 use native.Mathlib.Omega.{arith}
-use lib.Dec.{eqb}
 use lib.ListN.{length, getD, set, take, drop, length-take}
 use lib.Seq.{getD-set-same, getD-drop, drop-set-lt, drop-drop}
-use borrow.Author.Tests.{eq-eqb, ne-eqb}
+use borrow.Author.Tests.{ne-eqb}
 use Rattle.sale.specs.Lists.{below, keep}
-use Rattle.house.specs.Tickets.{Ticket, gamesLeft, isFinished, isLive, withDue, withFinishedDay}
+use Rattle.house.specs.Tickets.{Ticket, gamesLeft, isFinished, isLive, withDue}
 use Rattle.house.specs.Commands.{blankTicket, stillLive, finishedOn, awarded}
 use Rattle.house.specs.View.{ticketIn, ticketsOf}
 use Rattle.settlement.specs.Settling.{spread}
@@ -34,63 +33,18 @@ and-off : (b : Bool) → (b && false) ≡ false
 and-off true = refl
 and-off false = refl
 
-and-on : (b : Bool) → (b && true) ≡ b
-and-on true = refl
-and-on false = refl
+-- one that is paid nothing is the same, but for a finishing day
+module _ (day game cents : ℕ) (t : Ticket) (unpaid : cents ≡ 0) where
+  due-same : withDue t (t .due + cents) ≡ t
+  due-same = let same : t .due + cents ≡ t .due = omega arith in λ i. withDue t (same i)
 
-module _ (day game cents : ℕ) (t : Ticket) where
-  pub finished-earlier : (t .finishedDay ≡ 0 → ⊥) → withDue t (t .due + cents) ≡ paidTicket day game cents t
-  finished-earlier h =
-      rw (ne-eqb (t .finishedDay) 0 h, and-off (isFinished game (withDue t (t .due + cents))))
+  pub same-finished : (t .finishedDay ≡ 0 → ⊥) → paidTicket day game cents t ≡ t
+  same-finished h =
+      rw (ne-eqb (t .finishedDay) 0 h, and-off (isFinished game (withDue t (t .due + cents)))) due-same
 
-  pub games-to-come : eqb (t .stop - max (t .first) game) 0 ≡ false → withDue t (t .due + cents) ≡ paidTicket day game cents t
+  pub same-running : isFinished game t ≡ false → paidTicket day game cents t ≡ t
   unfolding gamesLeft
-  games-to-come e = rw e
-
-  pub finishes-now : t .finishedDay ≡ 0 → eqb (t .stop - max (t .first) game) 0 ≡ true
-      → withFinishedDay (withDue t (t .due + cents)) day ≡ paidTicket day game cents t
-  unfolding gamesLeft
-  finishes-now h e = rw (e, eq-eqb (t .finishedDay) 0 h)
-
-module _ (game : ℕ) (t : Ticket) where
-  due-stays : (t .due ≡ 0 → ⊥) → isLive game t ≡ true
-  due-stays h = rw (ne-eqb (t .due) 0 h, and-off (isFinished game t))
-
-  none-due : t .due ≡ 0 → (done : Bool) → done ≡ eqb (t .stop - max (t .first) game) 0 → isLive game t ≡ not done
-  unfolding gamesLeft
-  none-due h done e = rw (eq-eqb (t .due) 0 h, and-on (isFinished game t), e)
-
-module _ (day game cents : ℕ) (t : Ticket) where
-  -- a finishing day closes no ticket
-  live-paid : isLive game (paidTicket day game cents t) ≡ isLive game (withDue t (t .due + cents))
-  unfolding gamesLeft
-  live-paid = go (isFinished game (withDue t (t .due + cents)) && eqb (t .finishedDay) 0)
-    where
-      go : (done : Bool)
-          → isLive game (cond done (withFinishedDay (withDue t (t .due + cents)) day) (withDue t (t .due + cents)))
-          ≡ isLive game (withDue t (t .due + cents))
-      go true = refl
-      go false = refl
-
-  pub paid-stays : (cents ≡ 0 → ⊥) → isLive game (paidTicket day game cents t) ≡ true
-  paid-stays some = live-paid ∙ due-stays game (withDue t (t .due + cents)) (λ none. some (omega arith))
-
-  pub owed-stays : (t .due ≡ 0 → ⊥) → isLive game (paidTicket day game cents t) ≡ true
-  owed-stays some = live-paid ∙ due-stays game (withDue t (t .due + cents)) (λ none. some (omega arith))
-
-  pub unpaid-stays : cents ≡ 0 → t .due ≡ 0 → (done : Bool) → done ≡ eqb (t .stop - max (t .first) game) 0
-      → isLive game (paidTicket day game cents t) ≡ not done
-  unpaid-stays unpaid none done e = live-paid ∙ none-due game (withDue t (t .due + cents)) (omega arith) done e
-
-  module _ (unpaid : cents ≡ 0) where
-    due-same : withDue t (t .due + cents) ≡ t
-    due-same = let same : t .due + cents ≡ t .due = omega arith in λ i. withDue t (same i)
-
-    pub same-finished : (t .finishedDay ≡ 0 → ⊥) → paidTicket day game cents t ≡ t
-    same-finished h = sym (finished-earlier day game cents t h) ∙ due-same
-
-    pub same-running : eqb (t .stop - max (t .first) game) 0 ≡ false → paidTicket day game cents t ≡ t
-    same-running e = sym (games-to-come day game cents t e) ∙ due-same
+  same-running e = rw e due-same
 
 module _ (g : ℕ) (t : Ticket) where
   one-live : isLive g t ≡ true → stillLive g (t ∷ []) ≡ t ∷ []

@@ -2,66 +2,43 @@
 // nothing due then closes, and the next game is current.
 use house::rows::Row;
 use house::rows::change_ticket;
-use house::rows::is_finished;
 use house::rows::move_ticket;
 use house::rows::read_row;
 use house::state::House;
+use house::ticket::finished_on;
+use house::ticket::is_closed;
+use house::ticket::is_finished;
 ghost use mathlib.Core.Path.{_≡_};
-ghost use mathlib.Core.Bool.{true, not};
+ghost use mathlib.Core.Bool.{true};
 ghost use mathlib.Core.List.{List, [], _∷_, _++_};
 ghost use Prim.Native.Nat.{ℕ, _+_, _*_, _≤_, _<_, _^_};
 ghost use lib.ListN.{take, drop};
-ghost use Rattle.house.specs.Tickets.{isLive};
 ghost use Rattle.house.specs.Commands.{stillLive, ticketsAfterGame, gameEnded};
 ghost use Rattle.house.specs.View.{rowOf, ticketFrom, ticketIn, ticketsOf, view};
 ghost use Rattle.settlement.specs.Settling.{spread};
 ghost use Rattle.draw.specs.Closing.{paidTicket, Endable};
 
 // A ticket with what it is paid, and its finishing day where no game is left.
-fn paid_row(row: Row, day: u64, game: u64, cents: u64) -> Row
+fn paid_row(mut row: Row, day: u64, game: u64, cents: u64) -> Row
     requires { ⌜ row .due + cents < 2 ^ 64 ⌝ }
     ensures { λ r. ⌜ ((m : List ℕ) → ticketFrom r m ≡ paidTicket day game cents (ticketFrom row m)) ⌝ }
 {
-    let mut next = row;
-    next.due = row.due + cents;
+    let due = row.due + cents;
+    row.due = due;
+    finished_on(day, game, row)
+}
+
+// Whether a ticket is the same with what it is paid: nothing, and it has a game left or its finishing day already.
+fn is_same(row: Row, game: u64, cents: u64) -> bool
+    ensures { λ r. ⌜ (r ≡ true → (day : ℕ) (m : List ℕ) → paidTicket day game cents (ticketFrom row m) ≡ ticketFrom row m) ⌝ }
+{
+    if cents != 0 {
+        return false;
+    }
     if row.finished != 0 {
-        return next;
-    }
-    if !is_finished(game, row.first, row.stop) {
-        return next;
-    }
-    next.finished = day;
-    next
-}
-
-// Whether the ticket at a place closes with what it is paid: no game is left, and nothing is due.
-fn is_closed(rows: &[u64; 3200], i: usize, game: u64, cents: u64) -> bool
-    requires { ⌜ i < 200 ⌝ }
-    ensures { λ r. ⌜ ((day : ℕ) (m : List ℕ) → isLive game (paidTicket day game cents (ticketIn (now (rows .entry)) m i)) ≡ not r) ⌝ }
-{
-    if cents != 0 {
-        return false;
-    }
-    let at = i * 16;
-    if rows[at + 12] != 0 {
-        return false;
-    }
-    is_finished(game, rows[at + 9], rows[at + 10])
-}
-
-// Whether the ticket at a place is the same with what it is paid: nothing, and it has a game left or its finishing day already.
-fn is_same(rows: &[u64; 3200], i: usize, game: u64, cents: u64) -> bool
-    requires { ⌜ i < 200 ⌝ }
-    ensures { λ r. ⌜ (r ≡ true → (day : ℕ) (m : List ℕ) → paidTicket day game cents (ticketIn (now (rows .entry)) m i) ≡ ticketIn (now (rows .entry)) m i) ⌝ }
-{
-    if cents != 0 {
-        return false;
-    }
-    let at = i * 16;
-    if rows[at + 13] != 0 {
         return true;
     }
-    !is_finished(game, rows[at + 9], rows[at + 10])
+    !is_finished(game, row)
 }
 
 // The ticket at a place, where the given game is current now: it closes, or stays and stands behind the `left` tickets before it that stay.
@@ -80,15 +57,16 @@ fn close_ticket(
     ensures stay { λ r. ⌜ take r (ticketsOf (now (rows .exit)) (now (marks .exit))) ≡ take left (ticketsOf (now (rows .entry)) (now (marks .entry))) ++ stillLive game (paidTicket day game cents (ticketIn (now (rows .entry)) (now (marks .entry)) i) ∷ []) ⌝ }
     ensures rest { λ r. ⌜ drop (i + 1) (ticketsOf (now (rows .exit)) (now (marks .exit))) ≡ drop (i + 1) (ticketsOf (now (rows .entry)) (now (marks .entry))) ⌝ }
 {
-    if is_closed(rows, i, game, cents) {
+    let row = read_row(rows, i);
+    let paid = paid_row(row, day, game, cents);
+    if is_closed(game, paid) {
         return left;
     }
     move_ticket(rows, marks, i, left);
-    if is_same(rows, left, game, cents) {
+    if is_same(row, game, cents) {
         return left + 1;
     }
-    let row = read_row(rows, left);
-    change_ticket(rows, left, paid_row(row, day, game, cents));
+    change_ticket(rows, left, paid);
     left + 1
 }
 

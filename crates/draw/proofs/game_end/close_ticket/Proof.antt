@@ -1,5 +1,5 @@
 -- `draw::game_end::close_ticket` meets its contract: a ticket that stays is stored at its new place, with the marks that it had.
-use Prim.Native.Nat.{_+_, _<_}
+use Prim.Native.Nat.{ℕ, _+_, _<_}
 use native.Mathlib.Omega.{arith}
 use mathlib.Core.Path.{_≡_, refl, sym, ap, _∙_}
 use mathlib.Core.Bool.{not}
@@ -14,6 +14,7 @@ use Rattle.house.specs.declared.rows.Row.{Row}
 use Rattle.house.proofs.RowLaws.{tickets-at, tickets-length}
 use Rattle.draw.proofs.ClosingLaws.{closed-stays, live-stays, rest-stays, moved-ticket}
 use borrow.Author.Needs.{needs}
+use borrow.Author.Tests.{not-true, not-false}
 use Rattle.draw.proofs.game_end.close_ticket.Statement.{statement}
 use Rattle.draw.proofs.game_end.close_ticket.Tie as tie
 
@@ -29,14 +30,31 @@ paid s = paidTicket (s .args .day) (s .args .game) (s .args .cents) (ticket s)
 long : (s : tie.Start) → s .args .i < length (tickets s)
 long s = omega (arith, tickets-length (s .args .rows .now) (s .args .marks .now), s .pre)
 
-abbrev startOf : tie.After-is-closed → tie.Start
+-- the row that was read is the ticket's, and so is what it is paid
+abbrev startOf : tie.After-read-row → tie.Start
 startOf c = c .before .before
 
-live-here : (c : tie.After-is-closed) → isLive (startOf c .args .game) (paid (startOf c)) ≡ not (c .is-closed .result)
-live-here c = c .is-closed .ensures (startOf c .args .day) (startOf c .args .marks .now)
+abbrev own : tie.Start → List ℕ
+own s = marksAt (s .args .marks .now) (s .args .i)
+
+row-here : (c : tie.After-read-row) → ticketFrom (c .read-row .result) (own (startOf c)) ≡ ticket (startOf c)
+row-here c = ap (λ (r : Row). ticketFrom r (own (startOf c))) (c .read-row .ensures)
+
+paid-here : (c : tie.After-paid-row) → ticketFrom (c .paid-row .result) (own (startOf (c .before))) ≡ paid (startOf (c .before))
+paid-here c =
+    let s = startOf (c .before) in
+    c .paid-row .ensures (own s) ∙ ap (paidTicket (s .args .day) (s .args .game) (s .args .cents)) (row-here (c .before))
+
+closed-here : (c : tie.After-is-closed) → c .is-closed .result ≡ not (isLive (startOf (c .before .before) .args .game) (paid (startOf (c .before .before))))
+closed-here c =
+    let s = startOf (c .before .before) in
+    c .is-closed .ensures (own s) ∙ ap (λ t. not (isLive (s .args .game) t)) (paid-here (c .before))
+
+abbrev paying : tie.After-move-ticket → tie.After-paid-row
+paying c = c .before .before .before .before .before
 
 abbrev begun : tie.After-move-ticket → tie.Start
-begun c = startOf (c .before .before .before .before)
+begun c = startOf (paying c .before)
 
 -- the ticket at its new place, before it is paid
 here : (c : tie.After-move-ticket) → ticketIn (c .move-ticket .last .0) (c .move-ticket .last .1 .0) (begun c .args .left) ≡ ticket (begun c)
@@ -51,18 +69,25 @@ stays : (c : tie.After-move-ticket) →
 stays c =
     let s = begun c in
     let passed = c .before .before .before in
-    live-stays (tickets s) (s .args .left) (s .args .i) (s .pre .0) (long s) (s .args .game) (paid s) (live-here (passed .before) ∙ ap not (passed .if1 .left))
+    live-stays (tickets s) (s .args .left) (s .args .i) (s .pre .0) (long s) (s .args .game) (paid s) (not-false _ (sym (closed-here (passed .before)) ∙ passed .if1 .left))
+
+read-row-requires : tie.Need-read-row-requires
+read-row-requires c κs = search needs
+
+paid-row-requires : tie.Need-paid-row-requires
+paid-row-requires c κs =
+    omega (arith, startOf c .pre, ap (λ (r : Row). r .due) (c .read-row .ensures))
 
 is-closed-requires : tie.Need-is-closed-requires
 is-closed-requires c κs = search needs
 
 returns : tie.Need-returns
 returns c =
-    let s = startOf (c .before) in
+    let s = startOf (c .before .before .before) in
     let args = s .args in (
       omega arith,
       (
-        closed-stays (tickets s) (args .left) (args .i) (s .pre .0) (long s) (args .game) (paid s) (live-here (c .before) ∙ ap not (c .if1 .taken)),
+        closed-stays (tickets s) (args .left) (args .i) (s .pre .0) (long s) (args .game) (paid s) (not-true _ (sym (closed-here (c .before)) ∙ c .if1 .taken)),
         refl,
       ),
     )
@@ -78,13 +103,14 @@ add-result c = search needs
 
 returns-2 : tie.Need-returns-2
 returns-2 c =
-    let moved = c .before .before .before in
+    let moved = c .before .before in
+    let read = paying moved .before in
     let s = begun moved in
     let args = s .args in
     let same : paid s ≡ ticket s =
-    ap (paidTicket (args .day) (args .game) (args .cents)) (sym (here moved))
-    ∙ c .before .is-same .ensures (c .if2 .taken) (args .day) (moved .move-ticket .last .1 .0)
-    ∙ here moved in (
+    ap (paidTicket (args .day) (args .game) (args .cents)) (sym (row-here read))
+    ∙ c .before .is-same .ensures (c .if2 .taken) (args .day) (own s)
+    ∙ row-here read in (
       omega arith,
       (
         ap (take (args .left + 1)) (moved .move-ticket .ensures ∙ ap (set (tickets s) (args .left)) (tickets-at (args .rows .now) (args .marks .now) (args .i) (s .pre .1) ∙ sym same))
@@ -94,40 +120,24 @@ returns-2 c =
       ),
     )
 
-read-row-requires : tie.Need-read-row-requires
-read-row-requires c κs = search needs
-
-paid-row-requires : tie.Need-paid-row-requires
-paid-row-requires c κs =
-    let moved = c .before .before .before .before .before .before in
-    omega (
-      arith,
-      begun moved .pre,
-      ap (λ (r : Row). r .due) (c .before .read-row .ensures),
-      ap (λ (t : Ticket). t .due) (here moved),
-    )
-
 change-ticket-requires : tie.Need-change-ticket-requires
 change-ticket-requires c κs = search needs
 
 add-result-2 : tie.Need-add-result-2
-add-result-2 c = omega (arith, begun (c .before .before .before .before .before .before .before .before) .pre)
+add-result-2 c = omega (arith, begun (c .before .before .before .before) .pre)
 
 returns-3 : tie.Need-returns-3
 returns-3 c =
-    let moved = c .before .before .before .before .before .before .before .before in
+    let moved = c .before .before .before .before in
     let s = begun moved in
     let args = s .args in
     let marks = moved .move-ticket .last .1 .0 in
-    let own = marksAt marks (args .left) in
+    let row = paying moved .paid-row .result in
     let stored =
     c .change-ticket .ensures marks
-    ∙ ap (λ (ts : List Ticket). set ts (args .left) (ticketFrom (c .before .paid-row .result) own)) (moved .move-ticket .ensures)
+    ∙ ap (λ (ts : List Ticket). set ts (args .left) (ticketFrom row (marksAt marks (args .left)))) (moved .move-ticket .ensures)
     ∙ set-set (tickets s) (args .left) _ _
-    ∙ ap (set (tickets s) (args .left))
-    (c .before .paid-row .ensures own
-    ∙ ap (λ (r : Row). paidTicket (args .day) (args .game) (args .cents) (ticketFrom r own)) (c .before .before .before .read-row .ensures)
-    ∙ ap (paidTicket (args .day) (args .game) (args .cents)) (here moved)) in (
+    ∙ ap (set (tickets s) (args .left)) (ap (λ (t : Ticket). ticketFrom row (t .operands .marks)) (here moved) ∙ paid-here (paying moved)) in (
       omega arith,
       (
         ap (take (args .left + 1)) stored ∙ stays moved,
@@ -139,14 +149,14 @@ pub close-ticket-spec : {M : Type 1} → statement M
 close-ticket-spec =
     tie.close
     (tie.spec
+    read-row-requires
+    paid-row-requires
     is-closed-requires
     returns
     move-ticket-requires
     is-same-requires
     add-result
     returns-2
-    read-row-requires
-    paid-row-requires
     change-ticket-requires
     add-result-2
     returns-3)
