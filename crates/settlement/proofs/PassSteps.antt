@@ -2,14 +2,14 @@
 -- what a reached house gives.
 use Prim.Native.Nat.{ℕ, zero, suc, _+_, _*_, _-_, _≤_, _<_, _^_}
 use mathlib.Core.Path.{_≡_, refl, sym, ap, ap₂, _∙_, subst}
-use mathlib.Core.Bool.{Bool, true, false, cond, _&&_}
+use mathlib.Core.Bool.{Bool, true, false, cond}
 use mathlib.Core.Logic.{⊎-elim}
 use mathlib.Core.List.{List, [], _∷_, _++_, map, map-map, map-append, append-assoc, List·Memᴰ, List·Memᴰ·head, List·Memᴰ·tail}
 use native.Mathlib.Nat.{le-of-suc-le-suc, add-zero, zero-add, le-trans, mul-le-mul-right}
 use native.Mathlib.Numerals.{add-one}
 use native.Mathlib.Decide.{decLt}
 use native.Mathlib.Omega.{arith}
-use lib.Dec.{ltb, leb}
+use lib.Dec.{leb}
 use borrow.Author.Tests.{leb-true, leb-false}
 use lib.ListN.{length, take, drop, set, getD, length-append, length-map, length-set, List·getD-eq-default, replicate, length-replicate}
 use lib.Seq.{sets, take-all, take-suc-set, take-append-le, drop-append-seam, take-at, getD-take, getD-set-other, ext-getD, sets-eq, length-sets}
@@ -68,23 +68,20 @@ module _ (w : Row) (own : List ℕ) where
       ∙ ap (λ n. wordSizes n (sizeWord (sizes own))) (sym (length-byGroup (sizeOf own)))
       ∙ word-sizes (sizes own) (λ i. omega (arith, figure-le own i))
 
-  -- whether the ticket runs, by the test on its row
+  -- by whether the ticket runs
   module _ (game : ℕ) (draw : Draw) (before : ℕ) (majors : List ℕ) where
     abbrev ticket : Ticket
     ticket = ticketFrom w own
 
-    abbrev runs : Bool
-    runs = leb (w .first) game && ltb game (w .stop)
-
-    prizes-by : (b : Bool) → runs ≡ b → prizesAt game draw ticket ≡ cond b (prizesBy (termsOf (ticket .operands)) (sizes own) (hits draw own)) []
-    unfolding prizesAt runsIn
+    prizes-by : (b : Bool) → runsIn game ticket ≡ b → prizesAt game draw ticket ≡ cond b (prizesBy (termsOf (ticket .operands)) (sizes own) (hits draw own)) []
+    unfolding prizesAt
     prizes-by b e = ap (λ t. cond t (prizesBy (termsOf (ticket .operands)) (sizes own) (hits draw own)) []) e
 
-    matches-by : (b : Bool) → runs ≡ b → matchesAt game draw ticket ≡ cond b (fullBy (termsOf (ticket .operands)) (sizes own) (hits draw own)) 0
-    unfolding matchesAt runsIn
+    matches-by : (b : Bool) → runsIn game ticket ≡ b → matchesAt game draw ticket ≡ cond b (fullBy (termsOf (ticket .operands)) (sizes own) (hits draw own)) 0
+    unfolding matchesAt
     matches-by b e = ap (λ t. cond t (fullBy (termsOf (ticket .operands)) (sizes own) (hits draw own)) 0) e
 
-    pub ticket-rests : (leb (w .first) game && ltb game (w .stop)) ≡ false
+    pub ticket-rests : runsIn game ticket ≡ false
         → FoundAt game draw (ticketFrom w own) before majors (record { sure = 0; full = 0; majors = before }) majors
     unfolding sum keep
     ticket-rests e =
@@ -95,7 +92,7 @@ module _ (w : Row) (own : List ℕ) where
           stored = sym (ap (λ (l : List ℕ). sets majors before (keep isMajor l)) (prizes-by false e));
         }
 
-    pub ticket-runs : (leb (w .first) game && ltb game (w .stop)) ≡ true → Sold (ticketFrom w own)
+    pub ticket-runs : runsIn game ticket ≡ true → Sold (ticketFrom w own)
         → {t : Terms} → t ≡ termsOf (ticketFrom w [] .operands) → {table : List ℕ} → GroupsOf (w .sizes) draw own table
         → {r : Found} {majors′ : List ℕ} → FoundWith t (groupSizes table) (groupHits table) before majors r majors′
         → FoundAt game draw (ticketFrom w own) before majors r majors′

@@ -1,16 +1,16 @@
 -- The walks over the rows in which a jackpot is shared, one row more at a time; the bounds that keep them within 64 bits; and that they come to
 -- the same stakes and shares as the entries of the game, since a ticket that does not run pays and wins nothing.
 use Prim.Native.Nat.{ℕ, zero, suc, _+_, _-_, _*_, _/_, _≤_, _<_, _^_, min}
-use native.Mathlib.Nat.{add-zero, mul-one, mul-zero, mul-le-mul, mul-le-mul-left, sub-zero, zero-mul, sub-add-eq}
+use native.Mathlib.Nat.{add-zero, mul-one, mul-le-mul, mul-le-mul-left, sub-zero, zero-mul, sub-add-eq}
 use native.Mathlib.Numerals.{add-one}
 use native.Mathlib.Omega.{arith}
 use mathlib.Core.Path.{_≡_, refl, sym, ap, subst, subst⁻¹, _∙_}
-use mathlib.Core.Bool.{Bool, true, false, cond, _&&_}
+use mathlib.Core.Bool.{Bool, true, false, cond}
 use mathlib.Core.List.{List, [], _∷_, _++_, map, map-map, zipWith}
-use lib.Dec.{eqb, ltb, leb}
+use lib.Dec.{eqb, ltb}
 use lib.ListN.{length, take, set, getD, length-map}
 use lib.Seq.{getD-take}
-use borrow.Author.Tests.{ltb-true, ltb-false, le-leb, lt-leb, lt-ltb, le-ltb}
+use borrow.Author.Tests.{ltb-true, ltb-false, lt-ltb}
 use Rattle.sale.specs.Lists.{sum, keep, below}
 use Rattle.sale.specs.Price.{chargeLimit, charge}
 use Rattle.sale.specs.Checks.{wayCount}
@@ -25,14 +25,15 @@ use Rattle.prizes.specs.declared.jackpot.Jackpot.{Jackpot}
 use Rattle.sale.proofs.KeepLaws.{length-keep-le}
 use Rattle.sale.proofs.WayLaws.{ways-few}
 use Rattle.house.specs.Tickets.{Ticket, runsIn, paidStakes, entryOf}
-use Rattle.house.specs.View.{rowOf, ticketIn, view}
+use Rattle.house.specs.View.{rowOf, marksAt, ticketFrom, ticketIn, view}
 use Rattle.house.specs.Balance.{Reached}
 use Rattle.house.specs.Commands.{blankTicket}
 use Rattle.settlement.specs.Settling.{entriesOf, spread, fullIn, guaranteeOf, SharedOut}
 use Rattle.house.specs.declared.state.House.{House}
+use Rattle.house.specs.declared.rows.Row.{Row}
 use Rattle.settlement.specs.declared.shares.Part.{Part}
 use Rattle.settlement.specs.declared.figures.Stakes.{Stakes}
-use Rattle.settlement.specs.Sharing.{paidAt, paidIn, stakesAt, stakesIn, winnerAt, winnersIn, stakesOf, Entered, Shareable}
+use Rattle.settlement.specs.Sharing.{paidAt, paidIn, stakesAt, stakesIn, winnerFrom, winnerAt, winnersIn, stakesOf, Entered, Shareable}
 use Rattle.house.proofs.Ledger.{Kept}
 use Rattle.house.proofs.ListLaws.{cond-either, map-append}
 use Rattle.house.proofs.RisingNumbers.{all-at}
@@ -44,18 +45,6 @@ use Rattle.house.proofs.RowLists.{length-table, getD-table}
 -- ---- one row's paid stakes
 
 module _ (game : ℕ) (t : Ticket) where
-  paid-for-game : game < t .free → paidStakes game (game + 1) t ≡ t .operands .stake * t .ways
-  unfolding paidStakes charge
-  paid-for-game paid =
-      let one : min (game + 1) (t .free) - min game (t .free) ≡ 1 = omega arith in
-      ap (λ n. t .operands .stake * t .ways * n) one ∙ mul-one (t .operands .stake * t .ways)
-
-  free-game : t .free ≤ game → paidStakes game (game + 1) t ≡ 0
-  unfolding paidStakes charge
-  free-game free =
-      let none : min (game + 1) (t .free) - min game (t .free) ≡ 0 = omega arith in
-      ap (λ n. t .operands .stake * t .ways * n) none ∙ mul-zero (t .operands .stake * t .ways)
-
   game-paid-most : t .operands .stake * t .ways ≤ chargeLimit → paidStakes game (game + 1) t ≤ chargeLimit
   unfolding paidStakes charge
   game-paid-most within =
@@ -73,34 +62,22 @@ within-by true h = h
 within-by false h = omega arith
 
 module _ (words : List ℕ) (game i : ℕ) where
-  abbrev t : Ticket
-  t = ticketIn words [] i
-
-  pub paid-ahead : game < t .first → paidAt words game i ≡ 0
-  unfolding paidAt runsIn
-  paid-ahead early = rw (lt-leb (t .first) game early)
-
-  pub paid-past : t .stop ≤ game → paidAt words game i ≡ 0
-  unfolding paidAt runsIn
-  paid-past late = rw (le-ltb game (t .stop) late) (go (leb (t .first) game))
-    where
-      go : (b : Bool) → cond (b && false) (paidStakes game (game + 1) t) 0 ≡ 0
-      go true = refl
-      go false = refl
-
-  pub paid-free : t .free ≤ game → paidAt words game i ≡ 0
+  -- from the row that was read
+  pub paid-of-row :
+      (w : Row)
+      → w ≡ rowOf words (i * 16)
+      → (own : ℕ)
+      → ((marks : List ℕ) → own ≡ cond (runsIn game (ticketFrom w marks)) (paidStakes game (game + 1) (ticketFrom w marks)) 0)
+      → own ≡ paidAt words game i
   unfolding paidAt
-  paid-free free = rw (free-game game t free) (none-by (runsIn game t))
-
-  pub paid-whole : t .first ≤ game → game < t .stop → game < t .free → paidAt words game i ≡ t .operands .stake * t .ways
-  unfolding paidAt runsIn
-  paid-whole begun before paid =
-      rw (le-leb (t .first) game begun, lt-ltb game (t .stop) before) (paid-for-game game t paid)
+  paid-of-row w read own asked =
+      let mine : List ℕ = marksAt [] i in
+      asked mine ∙ ap (λ v. cond (runsIn game (ticketFrom v mine)) (paidStakes game (game + 1) (ticketFrom v mine)) 0) read
 
   -- all that the ticket stakes on a game, or nothing
-  pub paid-at-within : t .operands .stake * t .ways ≤ chargeLimit → paidAt words game i ≤ chargeLimit
+  pub paid-at-within : ticketIn words [] i .operands .stake * ticketIn words [] i .ways ≤ chargeLimit → paidAt words game i ≤ chargeLimit
   unfolding paidAt
-  paid-at-within within = within-by (runsIn game t) (game-paid-most game t within)
+  paid-at-within within = within-by (runsIn game (ticketIn words [] i)) (game-paid-most game (ticketIn words [] i) within)
 
 -- ---- one row more
 
@@ -254,11 +231,12 @@ module _ (words full : List ℕ) (j : ℕ) where
 pub no-stakes : (words full : List ℕ) (game j : ℕ) → stakesOf words full game j 0 ≡ record { jackpot = j; paid = 0; winning = 0 }
 no-stakes words full game j = λ k. record { jackpot = j; paid = stakes-none words game j k; winning = winning-none words full j k }
 
-module _ (words full : List ℕ) (game j i own : ℕ) (s : Stakes) (held : s ≡ stakesOf words full game j i) (paid : own ≡ paidAt words game i) where
+module _ (words full : List ℕ) (game j i own : ℕ) (s : Stakes) (held : s ≡ stakesOf words full game j i) (w : Row) (read : w ≡ rowOf words (i * 16)) (paid : own ≡ paidAt words game i) where
   pub stakes-room : (live : ℕ) → Entered words full live → i < live
-      → (s .paid + own < 2 ^ 64) × (s .winning + getD full i 0 * rowOf words (i * 16) .stake < 2 ^ 64)
+      → (s .paid + own < 2 ^ 64) × (s .winning + getD full i 0 * w .stake < 2 ^ 64)
   stakes-room live entered h =
-      let most : getD full i 0 * rowOf words (i * 16) .stake ≤ 255 * chargeLimit = mul-le-mul (entered .ways i h) (entered .stakes i h) in (
+      let stake : w .stake ≤ chargeLimit = omega (arith, ap (λ (v : Row). v .stake) read, entered .stakes i h) in
+      let most : getD full i 0 * w .stake ≤ 255 * chargeLimit = mul-le-mul (entered .ways i h) stake in (
         omega (
           arith,
           ap (λ r. r .paid) held,
@@ -270,16 +248,36 @@ module _ (words full : List ℕ) (game j i own : ℕ) (s : Stakes) (held : s ≡
       )
 
   pub stakes-next : (r : Stakes) → r .jackpot ≡ s .jackpot
-      → r .paid ≡ s .paid + cond (eqb (rowOf words (i * 16) .jackpot) (s .jackpot)) own 0
-      → r .winning ≡ s .winning + winningStake (winnerAt words full (s .jackpot) i)
+      → r .paid ≡ s .paid + cond (eqb (w .jackpot) (s .jackpot)) own 0
+      → r .winning ≡ s .winning + winningStake (winnerFrom w (getD full i 0) (s .jackpot))
       → r ≡ stakesOf words full game j (i + 1)
+  unfolding winnerAt
   stakes-next r same more won =
       let number : s .jackpot ≡ j = ap (λ r. r .jackpot) held in
       let paying : r .paid ≡ stakesIn words game j (i + 1) =
-      more ∙ (λ k. held k .paid + cond (eqb (rowOf words (i * 16) .jackpot) (number k)) (paid k) 0) ∙ sym (stakes-more words game j i) in
+      more ∙ (λ k. held k .paid + cond (eqb (read k .jackpot) (number k)) (paid k) 0) ∙ sym (stakes-more words game j i) in
       let winning : r .winning ≡ winningStakes (winnersIn words full j (i + 1)) =
-      won ∙ (λ k. held k .winning + winningStake (winnerAt words full (number k) i)) ∙ sym (winning-more words full j i) in
+      won ∙ (λ k. held k .winning + winningStake (winnerFrom (read k) (getD full i 0) (number k))) ∙ sym (winning-more words full j i) in
       λ k. record { jackpot = (same ∙ number) k; paid = paying k; winning = winning k }
+
+-- ---- one row's winning ways, from the row that was read
+
+module _ (words full : List ℕ) (j i : ℕ) (w : Row) (read : w ≡ rowOf words (i * 16)) (count : ℕ) (counted : count ≡ winnerFrom w (getD full i 0) j .count) where
+  pub row-count : count ≡ winnerAt words full j i .count
+  unfolding winnerAt
+  row-count = counted ∙ ap (λ v. winnerFrom v (getD full i 0) j .count) read
+
+  row-stake : w .stake ≡ winnerAt words full j i .stake
+  unfolding winnerAt
+  row-stake = ap (λ v. v .stake) read
+
+  module _ (p s : ℕ) where
+    pub row-sharing : Sharing p s (winnerAt words full j i .count) (winnerAt words full j i .stake) → Sharing p s count (w .stake)
+    row-sharing h = subst⁻¹ (λ n. Sharing p s n (w .stake)) row-count (subst⁻¹ (Sharing p s (winnerAt words full j i .count)) row-stake h)
+
+    pub row-share : (odd share : ℕ) → share ≡ count * shareOf p s (w .stake) + min odd count
+        → share ≡ winnerAt words full j i .count * shareOf p s (winnerAt words full j i .stake) + min odd (winnerAt words full j i .count)
+    row-share odd share e = e ∙ (λ k. row-count k * shareOf p s (row-stake k) + min odd (row-count k))
 
 -- ---- shares joined to what is paid
 

@@ -11,6 +11,7 @@ use Rattle.sale.specs.Price.{chargeLimit}
 use Rattle.prizes.specs.Jackpots.{Winner, winningStakes}
 use Rattle.house.specs.Tickets.{runsIn, paidStakes}
 use Rattle.house.specs.View.{rowOf, ticketIn}
+use Rattle.house.specs.declared.rows.Row.{Row}
 use Rattle.settlement.specs.declared.figures.Stakes.{Stakes}
 use Rattle.settlement.specs.declared.figures.GameFigures.{GameFigures}
 
@@ -31,12 +32,11 @@ unfoldable pub stakesIn : List ℕ → ℕ → ℕ → ℕ → ℕ
 stakesIn words game j live = sum (map (stakesAt words game j) (below live))
 
 -- the winning ways of a row's ticket: its full matches, where it plays for the jackpot
+abbrev pub winnerFrom : Row → ℕ → ℕ → Winner
+winnerFrom w matches j = record { count = cond (eqb (w .jackpot) j) matches 0; stake = w .stake }
+
 unfoldable pub winnerAt : List ℕ → List ℕ → ℕ → ℕ → Winner
-winnerAt words full j i =
-    record {
-      count = cond (eqb (rowOf words (i * 16) .jackpot) j) (getD full i 0) 0;
-      stake = rowOf words (i * 16) .stake;
-    }
+winnerAt words full j i = winnerFrom (rowOf words (i * 16)) (getD full i 0) j
 
 unfoldable pub winnersIn : List ℕ → List ℕ → ℕ → ℕ → List Winner
 winnersIn words full j live = map (winnerAt words full j) (below live)

@@ -1,15 +1,16 @@
 // What the live rows tell of a drawn game once its prizes are found, in one pass over them: the prizes together, the paid stakes, and those of
 // each jackpot.
+use house::rows::Row;
+use house::rows::read_row;
+use house::ticket::paid_for;
 ghost use mathlib.Core.Path.{_≡_};
 ghost use mathlib.Core.Bool.{cond};
 ghost use Prim.Native.Nat.{_+_, _*_, _≤_, _<_, _^_};
 ghost use lib.Dec.{eqb};
-ghost use lib.ListN.{length, take, getD};
+ghost use lib.ListN.{length, take};
 ghost use Rattle.sale.specs.Lists.{sum};
-ghost use Rattle.sale.specs.Price.{chargeLimit};
 ghost use Rattle.prizes.specs.Jackpots.{winningStake};
-ghost use Rattle.house.specs.View.{rowOf};
-ghost use Rattle.settlement.specs.Sharing.{paidAt, winnerAt, figuresOf, Entered};
+ghost use Rattle.settlement.specs.Sharing.{winnerFrom, figuresOf, Entered};
 
 // Of the tickets that play for a jackpot: what they paid for the game, and the stakes of their ways that match in full.
 pub struct Stakes {
@@ -26,40 +27,21 @@ pub struct GameFigures {
     pub eight: Stakes,
 }
 
-// What the ticket at a place paid for a game: nothing where it does not run in it, or plays it free.
-fn paid_at(rows: &[u64; 3200], i: usize, game: u64) -> u64
-    requires { ⌜ (i < 200) × (rowOf (now rows) (i * 16) .stake * rowOf (now rows) (i * 16) .ways ≤ chargeLimit) ⌝ }
-    ensures { λ r. ⌜ r ≡ paidAt (now (rows .entry)) game i ⌝ }
-{
-    let at = i * 16;
-    if game < rows[at + 9] {
-        return 0;
-    }
-    if rows[at + 10] <= game {
-        return 0;
-    }
-    if rows[at + 11] <= game {
-        return 0;
-    }
-    rows[at + 3] * rows[at + 6]
-}
-
-// A jackpot's stakes with those of the ticket at a place, which paid so much for the game: the same where it does not play for the jackpot.
-fn with_ticket(stakes: Stakes, rows: &[u64; 3200], full: &[u64; 200], i: usize, paid: u64) -> Stakes
-    requires place { ⌜ i < 200 ⌝ }
-    requires room { ⌜ (stakes .paid + paid < 2 ^ 64) × (stakes .winning + getD (now full) i 0 * rowOf (now rows) (i * 16) .stake < 2 ^ 64) ⌝ }
+// A jackpot's stakes with those of a ticket that has so many full matches and paid so much for the game: the same where it does not play for the
+// jackpot.
+fn with_ticket(stakes: Stakes, row: Row, matches: u64, paid: u64) -> Stakes
+    requires { ⌜ (stakes .paid + paid < 2 ^ 64) × (stakes .winning + matches * row .stake < 2 ^ 64) ⌝ }
     ensures same { λ r. ⌜ r .jackpot ≡ stakes .jackpot ⌝ }
-    ensures paid { λ r. ⌜ r .paid ≡ stakes .paid + cond (eqb (rowOf (now (rows .entry)) (i * 16) .jackpot) (stakes .jackpot)) paid 0 ⌝ }
-    ensures winning { λ r. ⌜ r .winning ≡ stakes .winning + winningStake (winnerAt (now (rows .entry)) (now (full .entry)) (stakes .jackpot) i) ⌝ }
+    ensures paid { λ r. ⌜ r .paid ≡ stakes .paid + cond (eqb (row .jackpot) (stakes .jackpot)) paid 0 ⌝ }
+    ensures winning { λ r. ⌜ r .winning ≡ stakes .winning + winningStake (winnerFrom row matches (stakes .jackpot)) ⌝ }
 {
-    let at = i * 16;
-    if rows[at + 7] != stakes.jackpot {
+    if row.jackpot != stakes.jackpot {
         return stakes;
     }
     Stakes {
         jackpot: stakes.jackpot,
         paid: stakes.paid + paid,
-        winning: stakes.winning + full[i] * rows[at + 3],
+        winning: stakes.winning + matches * row.stake,
     }
 }
 
@@ -89,11 +71,13 @@ pub(crate) fn find_figures(
     };
     let mut i = 0;
     while i < live {
-        let own = paid_at(rows, i, game);
+        let row = read_row(rows, i);
+        let own = paid_for(game, row);
+        let matches = full[i];
         prizes += paid[i];
         stakes += own;
-        six = with_ticket(six, rows, full, i, own);
-        eight = with_ticket(eight, rows, full, i, own);
+        six = with_ticket(six, row, matches, own);
+        eight = with_ticket(eight, row, matches, own);
         i += 1;
     }
     GameFigures {

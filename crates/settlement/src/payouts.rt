@@ -4,6 +4,7 @@
 use house::rows;
 use house::rows::Row;
 use house::state::House;
+use house::ticket::runs_in;
 use prizes::cut::Cut;
 use prizes::cut::FLOORS_IN_LIMIT;
 use prizes::draw::Draw;
@@ -15,10 +16,8 @@ use prizes::majors::raise_of;
 use sale::terms::Kind;
 use sale::terms::Terms;
 ghost use mathlib.Core.Path.{_≡_};
-ghost use mathlib.Core.Bool.{_&&_};
 ghost use mathlib.Core.List.{List, []};
 ghost use Prim.Native.Nat.{ℕ};
-ghost use lib.Dec.{ltb, leb};
 ghost use lib.ListN.{length};
 ghost use Rattle.prizes.specs.Found.{Counting, GroupsOf};
 ghost use Rattle.sale.specs.Bounds.{Grouping};
@@ -51,16 +50,6 @@ fn row_terms(row: Row) -> Terms
     }
 }
 
-// Whether a ticket for the games from `first` on and before `stop` runs in a game.
-fn is_running(first: u64, stop: u64, game: u64) -> bool
-    ensures { λ r. ⌜ r ≡ (leb first game && ltb game stop) ⌝ }
-{
-    if game < first {
-        return false;
-    }
-    game < stop
-}
-
 // The groups of the ticket at a place, whose marks are a part of those that are lent.
 fn ticket_groups(marks: &[u8], i: usize, word: u64, draw: Draw) -> [u32; 9]
     requires { ⌜ Inside (now marks) i × Grouping (marksAt (now marks) i) ⌝ }
@@ -86,7 +75,7 @@ fn find_ticket(
     ensures { λ r. ⌜ FoundAt game draw (ticketIn (now (rows .entry)) (now (marks .entry)) i) before (now (majors .entry)) r (now (majors .exit)) ⌝ }
 {
     let row = rows::read_row(rows, i);
-    if !is_running(row.first, row.stop, game) {
+    if !runs_in(game, row) {
         return Found {
             sure: 0,
             full: 0,

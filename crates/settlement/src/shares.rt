@@ -1,6 +1,7 @@
-// One jackpot's part of a drawn game: contributions, shares, seed and what is paid back. Rows are passed only where a way won, and each walk over
-// them reads words alone.
+// One jackpot's part of a drawn game: contributions, shares, seed and what is paid back. Rows are passed only where a way won.
 use crate::figures::Stakes;
+use house::rows::Row;
+use house::rows::read_row;
 use house::state::House;
 use prizes::jackpot::Jackpot;
 use prizes::jackpot::ticket_share;
@@ -16,7 +17,7 @@ ghost use Rattle.prizes.specs.Jackpots.{winningStakes, shareOf, oddCents, share
 ghost use Rattle.house.specs.Balance.{Reached};
 ghost use Rattle.house.specs.View.{view};
 ghost use Rattle.settlement.specs.Settling.{spread, fullIn, guaranteeOf, Matched, SharedOut};
-ghost use Rattle.settlement.specs.Sharing.{winnerAt, winnersIn, stakesOf, Entered, Shareable};
+ghost use Rattle.settlement.specs.Sharing.{winnerFrom, winnersIn, stakesOf, Entered, Shareable};
 
 // The jackpot after the game, the shares together, and the totals that the till takes in.
 pub struct Part {
@@ -28,13 +29,11 @@ pub struct Part {
 }
 
 // A ticket's winning ways: its full matches, where it plays for the jackpot.
-fn winning_ways(rows: &[u64; 3200], i: usize, jackpot: u64, full: &[u64; 200]) -> u64
-    requires { ⌜ i < 200 ⌝ }
-    ensures { λ r. ⌜ r ≡ winnerAt (now (rows .entry)) (now (full .entry)) jackpot i .count ⌝ }
+fn winning_ways(row: Row, jackpot: u64, matches: u64) -> u64
+    ensures { λ r. ⌜ r ≡ winnerFrom row matches jackpot .count ⌝ }
 {
-    let at = i * 16;
-    if rows[at + 7] == jackpot {
-        return full[i];
+    if row.jackpot == jackpot {
+        return matches;
     }
     0
 }
@@ -65,9 +64,9 @@ fn odd_cents(
     let mut shared = 0;
     let mut i = 0;
     while i < live {
-        let at = i * 16;
-        let count = winning_ways(rows, i, jackpot, full);
-        shared += shares_of(0, primary, stakes, count, rows[at + 3]);
+        let row = read_row(rows, i);
+        let count = winning_ways(row, jackpot, full[i]);
+        shared += shares_of(0, primary, stakes, count, row.stake);
         i += 1;
     }
     primary - shared
@@ -101,9 +100,9 @@ fn add_shares(
     let mut left = odd;
     let mut i = 0;
     while i < live {
-        let at = i * 16;
-        let count = winning_ways(rows, i, jackpot, full);
-        let share = shares_of(left, primary, stakes, count, rows[at + 3]);
+        let row = read_row(rows, i);
+        let count = winning_ways(row, jackpot, full[i]);
+        let share = shares_of(left, primary, stakes, count, row.stake);
         paid[i] += share;
         left = odd_after(left, count);
         i += 1;

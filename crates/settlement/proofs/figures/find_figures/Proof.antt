@@ -1,12 +1,13 @@
 -- `settlement::figures::find_figures` meets its contract: each turn adds one row's figures, and each total is that of the rows passed, within so many
 -- of the most that one row adds.
 use Prim.Native.Nat.{_+_, _-_, _≤_}
-use mathlib.Core.Path.{_≡_, refl, sym, ap, _∙_}
+use mathlib.Core.Path.{_≡_, refl, sym, ap, _∙_, subst⁻¹}
 use native.Mathlib.Omega.{arith}
 use lib.ListN.{take}
 use Rattle.sale.specs.Lists.{sum}
-use Rattle.settlement.specs.Sharing.{paidIn, stakesOf, figuresOf}
-use Rattle.settlement.proofs.SharingLaws.{paid-none, paid-more, paid-within, paid-at-within, no-stakes, stakes-room, stakes-next}
+use Rattle.house.specs.View.{Affordable}
+use Rattle.settlement.specs.Sharing.{paidAt, paidIn, stakesOf, figuresOf}
+use Rattle.settlement.proofs.SharingLaws.{paid-of-row, paid-none, paid-more, paid-within, paid-at-within, no-stakes, stakes-room, stakes-next}
 use Rattle.settlement.proofs.TablePlaces.{sum-take-more, sum-take-within}
 use Rattle.settlement.proofs.figures.find_figures.Statement.{statement}
 use Rattle.settlement.proofs.figures.find_figures.Tie as tie
@@ -33,84 +34,108 @@ loop-holds c =
       sym (no-stakes (args .rows .now) (args .full .now) (args .game) 8),
     )
 
-paid-at-requires : tie.Need-paid-at-requires Inv-loop μ-loop
-paid-at-requires c κs =
-    let rows = c .before .before .pre .0 in
-    (omega (arith, rows .few), rows .within (c .before .loop .i) (c .loop-test .taken))
+-- what the row's ticket paid for the game
+own-paid : (c : tie.After-paid-for Inv-loop μ-loop) →
+    c .paid-for .result ≡ paidAt (c .before .before .before .before .args .rows .now) (c .before .before .before .before .args .game) (c .before .before .before .loop .i)
+own-paid c =
+    let read = c .before in
+    let args = read .before .before .before .args in
+    paid-of-row (args .rows .now) (args .game) (read .before .before .loop .i) (read .read-row .result) (read .read-row .ensures) (c .paid-for .result) (c .paid-for .ensures)
+
+read-row-requires : tie.Need-read-row-requires Inv-loop μ-loop
+read-row-requires c κs = omega (arith, c .before .before .pre .0 .few)
+
+paid-for-requires : tie.Need-paid-for-requires Inv-loop μ-loop
+paid-for-requires c κs =
+    let rows = c .before .before .before .pre .0 in
+    let i = c .before .before .loop .i in
+    subst⁻¹ Affordable (c .read-row .ensures) (record { within = rows .within i (c .before .loop-test .taken) })
+
+mul-matches : tie.Need-mul-matches Inv-loop μ-loop
+mul-matches c = omega (arith, c .before .before .before .before .pre .0 .few)
+
+element-copy-out-matches : tie.Need-element-copy-out-matches Inv-loop μ-loop
+element-copy-out-matches c = omega (arith, c .before .before .before .before .pre .0 .few)
 
 mul-prizes : tie.Need-mul-prizes Inv-loop μ-loop
-mul-prizes c = omega (arith, c .before .before .before .pre .0 .few)
+mul-prizes c = omega (arith, c .before .before .before .before .before .pre .0 .few)
 
 element-copy-out-prizes : tie.Need-element-copy-out-prizes Inv-loop μ-loop
-element-copy-out-prizes c = omega (arith, c .before .before .before .pre .0 .few)
+element-copy-out-prizes c = omega (arith, c .before .before .before .before .before .pre .0 .few)
 
 add-prizes : tie.Need-add-prizes Inv-loop μ-loop
 add-prizes c =
-    let start = c .before .before .before .before in
-    let turn = c .before .before .before .loop in
+    let turning = c .before .before .before .before in
+    let start = turning .before .before in
+    let turn = turning .before .loop in
     let paid = start .args .paid .now in
     omega (
       arith,
       turn .inv .1,
-      sum-take-more paid (turn .i) (omega (arith, start .pre .1, c .before .before .loop-test .taken)),
-      sum-take-within paid (turn .i + 1) (start .args .live) (omega (arith, c .before .before .loop-test .taken)),
+      sum-take-more paid (turn .i) (omega (arith, start .pre .1, turning .loop-test .taken)),
+      sum-take-within paid (turn .i + 1) (start .args .live) (omega (arith, turning .loop-test .taken)),
       start .pre .1,
     )
 
 add-stakes : tie.Need-add-stakes Inv-loop μ-loop
 add-stakes c =
-    let start = c .before .before .before .before in
+    let own = c .before .before in
+    let turning = own .before .before in
+    let start = turning .before .before in
     let args = start .args in
-    let turn = c .before .before .before .loop in
+    let turn = turning .before .loop in
     omega (
       arith,
       turn .inv .2,
-      c .before .paid-at .ensures,
+      own-paid own,
       start .pre .0 .few,
       paid-within (args .rows .now) (args .game) (args .full .now) (args .live) (start .pre .0) (turn .i) (turn .inv .0),
-      paid-at-within (args .rows .now) (args .game) (turn .i) (start .pre .0 .within (turn .i) (c .before .before .loop-test .taken)),
+      paid-at-within (args .rows .now) (args .game) (turn .i) (start .pre .0 .within (turn .i) (turning .loop-test .taken)),
     )
 
 with-ticket-requires : tie.Need-with-ticket-requires Inv-loop μ-loop
 with-ticket-requires c κs =
-    let start = c .before .before .before .before in
+    let own = c .before .before in
+    let read = own .before in
+    let turning = read .before in
+    let start = turning .before .before in
     let args = start .args in
-    let turn = c .before .before .before .loop in (
-      omega (arith, start .pre .0 .few, c .before .before .loop-test .taken),
-      stakes-room (args .rows .now) (args .full .now) (args .game) 6 (turn .i) (c .before .paid-at .result) (turn .six) (turn .inv .3) (c .before .paid-at .ensures) (args .live) (start .pre .0) (c .before .before .loop-test .taken),
-    )
+    let turn = turning .before .loop in
+    stakes-room (args .rows .now) (args .full .now) (args .game) 6 (turn .i) (own .paid-for .result) (turn .six) (turn .inv .3) (read .read-row .result) (read .read-row .ensures) (own-paid own) (args .live) (start .pre .0) (turning .loop-test .taken)
 
 with-ticket-requires-2 : tie.Need-with-ticket-requires-2 Inv-loop μ-loop
 with-ticket-requires-2 c κs =
-    let start = c .before .before .before .before .before in
+    let own = c .before .before .before in
+    let read = own .before in
+    let turning = read .before in
+    let start = turning .before .before in
     let args = start .args in
-    let turn = c .before .before .before .before .loop in
-    let own = c .before .before .paid-at in
-    let test = c .before .before .before .loop-test in (
-      omega (arith, start .pre .0 .few, test .taken),
-      stakes-room (args .rows .now) (args .full .now) (args .game) 8 (turn .i) (own .result) (turn .eight) (turn .inv .4) (own .ensures) (args .live) (start .pre .0) (test .taken),
-    )
+    let turn = turning .before .loop in
+    stakes-room (args .rows .now) (args .full .now) (args .game) 8 (turn .i) (own .paid-for .result) (turn .eight) (turn .inv .4) (read .read-row .result) (read .read-row .ensures) (own-paid own) (args .live) (start .pre .0) (turning .loop-test .taken)
 
 add-i : tie.Need-add-i Inv-loop μ-loop
-add-i c = omega (arith, c .before .before .before .before .loop-test .taken, c .before .before .before .before .before .before .pre .0 .few)
+add-i c =
+    let turning = c .before .before .before .before .before .before in
+    omega (arith, turning .loop-test .taken, turning .before .before .pre .0 .few)
 
 loop-less : tie.Need-loop-less Inv-loop μ-loop
-loop-less c = omega (arith, c .before .before .before .before .loop-test .taken)
+loop-less c = omega (arith, c .before .before .before .before .before .before .loop-test .taken)
 
 loop-again : tie.Need-loop-again Inv-loop μ-loop
 loop-again c =
-    let start = c .before .before .before .before .before .before in
+    let own = c .before .before .before .before in
+    let read = own .before in
+    let turning = read .before in
+    let start = turning .before .before in
     let args = start .args in
-    let turn = c .before .before .before .before .before .loop in
-    let own = c .before .before .before .paid-at in
-    let test = c .before .before .before .before .loop-test in
+    let turn = turning .before .loop in
     let six = c .before .with-ticket in
     let eight = c .with-ticket2 in (
-      omega (arith, test .taken),
-      omega (arith, turn .inv .1, sum-take-more (args .paid .now) (turn .i) (omega (arith, start .pre .1, test .taken))),
-      omega (arith, turn .inv .2, own .ensures, paid-more (args .rows .now) (args .game) (turn .i)),
-      stakes-next (args .rows .now) (args .full .now) (args .game) 6 (turn .i) (own .result) (turn .six) (turn .inv .3) (own .ensures) (six .result) (six .ensures .0) (six .ensures .1 .0) (six .ensures .1 .1),
-      stakes-next (args .rows .now) (args .full .now) (args .game) 8 (turn .i) (own .result) (turn .eight) (turn .inv .4) (own .ensures) (eight .result) (eight .ensures .0) (eight .ensures .1 .0) (eight .ensures .1 .1),
+      omega (arith, turning .loop-test .taken),
+      omega (arith, turn .inv .1, sum-take-more (args .paid .now) (turn .i) (omega (arith, start .pre .1, turning .loop-test .taken))),
+      omega (arith, turn .inv .2, own-paid own, paid-more (args .rows .now) (args .game) (turn .i)),
+      stakes-next (args .rows .now) (args .full .now) (args .game) 6 (turn .i) (own .paid-for .result) (turn .six) (turn .inv .3) (read .read-row .result) (read .read-row .ensures) (own-paid own) (six .result) (six .ensures .0) (six .ensures .1 .0) (six .ensures .1 .1),
+      stakes-next (args .rows .now) (args .full .now) (args .game) 8 (turn .i) (own .paid-for .result) (turn .eight) (turn .inv .4) (read .read-row .result) (read .read-row .ensures) (own-paid own) (eight .result) (eight .ensures .0) (eight .ensures .1 .0) (eight .ensures .1 .1),
     )
 
 returns : tie.Need-returns Inv-loop μ-loop
@@ -128,7 +153,10 @@ find-figures-spec =
     Inv-loop
     μ-loop
     loop-holds
-    paid-at-requires
+    read-row-requires
+    paid-for-requires
+    mul-matches
+    element-copy-out-matches
     mul-prizes
     element-copy-out-prizes
     add-prizes

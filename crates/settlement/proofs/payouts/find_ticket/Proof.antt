@@ -22,8 +22,8 @@ row-sold c =
     let args = c .before .args in
     subst (λ (w : Row). Sold (ticketFrom w (marksAt (args .marks .now) (args .i)))) (sym (c .read-row .ensures)) (c .before .pre .0 .sold)
 
-is-running-requires : tie.Need-is-running-requires
-is-running-requires c κs = search needs
+runs-in-requires : tie.Need-runs-in-requires
+runs-in-requires c κs = search needs
 
 returns : tie.Need-returns
 returns c =
@@ -33,7 +33,7 @@ returns c =
     subst (λ (w : Row). FoundAt (args .game) (args .draw) (ticketFrom w own) (args .before) (args .majors .now) (record { sure = 0; full = 0; majors = args .before }) (args .majors .now))
     (read .read-row .ensures)
     (ticket-rests (read .read-row .result) own (args .game) (args .draw) (args .before) (args .majors .now)
-    (sym (c .before .is-running .ensures) ∙ not-true _ (c .if1 .taken)))
+    (sym (c .before .runs-in .ensures own) ∙ not-true _ (c .if1 .taken)))
 
 known-marks-requires : tie.Need-known-marks-requires
 known-marks-requires c κs = search needs
@@ -74,7 +74,7 @@ returns-2 c =
     let own = marksAt (args .marks .now) (args .i) in
     subst (λ (w : Row). FoundAt (args .game) (args .draw) (ticketFrom w own) (args .before) (args .majors .now) (c .ticket-prizes .result) (c .ticket-prizes .last .1 .1 .1 .0))
     (read .read-row .ensures)
-    (ticket-runs row own (args .game) (args .draw) (args .before) (args .majors .now) (sym (runs .before .is-running .ensures) ∙ not-false _ (runs .if1 .left))
+    (ticket-runs row own (args .game) (args .draw) (args .before) (args .majors .now) (sym (runs .before .runs-in .ensures own) ∙ not-false _ (runs .if1 .left))
     (row-sold read) (terms .row-terms .ensures) (groups .ticket-groups .ensures) (c .ticket-prizes .ensures))
 
 pub find-ticket-spec : {M : Type 1} → statement M
@@ -82,7 +82,7 @@ find-ticket-spec =
     tie.close
     (tie.spec
     read-row-requires
-    is-running-requires
+    runs-in-requires
     returns
     known-marks-requires
     ticket-groups-requires

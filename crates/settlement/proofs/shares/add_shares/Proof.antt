@@ -1,14 +1,12 @@
 -- `settlement::shares::add_shares` meets its contract: each turn joins one row's share to what its ticket is paid, and the odd cents fall by its ways.
 use Prim.Native.Nat.{_+_, _-_, _*_, _≤_, min}
-use mathlib.Core.Path.{_≡_, sym, ap, subst, _∙_}
+use mathlib.Core.Path.{_≡_, ap, _∙_}
 use native.Mathlib.Omega.{arith}
 use borrow.Author.Needs.{needs}
-use lib.ListN.{getD}
-use Rattle.prizes.specs.Bounds.{Sharing}
 use Rattle.prizes.specs.Jackpots.{shareOf, sharesFrom}
 use Rattle.prizes.proofs.ShareLaws.{winningWays}
 use Rattle.settlement.specs.Sharing.{winnerAt, winnersIn}
-use Rattle.settlement.proofs.SharingLaws.{ways-none, ways-more, sharing-at, share-most, joinedTo, given-none, given-next, given-more, given-all}
+use Rattle.settlement.proofs.SharingLaws.{ways-none, ways-more, sharing-at, share-most, joinedTo, given-none, given-next, given-more, given-all, row-count, row-sharing, row-share}
 use Rattle.settlement.proofs.shares.add_shares.Statement.{statement}
 use Rattle.settlement.proofs.shares.add_shares.Tie as tie
 
@@ -21,18 +19,29 @@ Inv-loop rows live jackpot full primary stakes odd paid₀ left₀ i₀ paid lef
 abbrev μ-loop : tie.MeasureT-loop
 μ-loop rows live jackpot full primary stakes odd paid₀ left₀ i₀ paid left i = live - i
 
--- the row's share as the code finds it
-row-share : (c : tie.After-shares-of Inv-loop μ-loop) →
-    let args = c .before .before .before .before .before .args in
+-- the row's winning ways and its share as the code finds them
+row-ways : (c : tie.After-winning-ways Inv-loop μ-loop) →
     let turn = c .before .before .before .before .loop in
+    let args = c .before .before .before .before .before .args in
+    c .winning-ways .result ≡ winnerAt (args .rows .now) (args .full .now) (args .jackpot) (turn .i) .count
+row-ways c =
+    let read = c .before .before in
+    let turn = read .before .before .loop in
+    let args = read .before .before .before .args in
+    row-count (args .rows .now) (args .full .now) (args .jackpot) (turn .i) (read .read-row .result) (read .read-row .ensures) (c .winning-ways .result) (c .winning-ways .ensures)
+
+share-found : (c : tie.After-shares-of Inv-loop μ-loop) →
+    let turning = c .before .before .before .before in
+    let args = turning .before .before .args in
+    let turn = turning .before .loop in
     let winner = winnerAt (args .rows .now) (args .full .now) (args .jackpot) (turn .i) in
     c .shares-of .result ≡ winner .count * shareOf (args .primary) (args .stakes) (winner .stake) + min (turn .left) (winner .count)
-unfolding winnerAt
-row-share c =
-    let args = c .before .before .before .before .before .args in
-    let turn = c .before .before .before .before .loop in
-    c .shares-of .ensures
-    ∙ ap (λ n. n * shareOf (args .primary) (args .stakes) (getD (args .rows .now) (turn .i * 16 + 3) 0) + min (turn .left) n) (c .before .before .winning-ways .ensures)
+share-found c =
+    let counted = c .before in
+    let read = counted .before .before in
+    let turn = read .before .before .loop in
+    let args = read .before .before .before .args in
+    row-share (args .rows .now) (args .full .now) (args .jackpot) (turn .i) (read .read-row .result) (read .read-row .ensures) (counted .winning-ways .result) (counted .winning-ways .ensures) (args .primary) (args .stakes) (turn .left) (c .shares-of .result) (c .shares-of .ensures)
 
 loop-holds : tie.Need-loop-holds Inv-loop μ-loop
 loop-holds c =
@@ -42,81 +51,78 @@ loop-holds c =
       given-none (args .rows .now) (args .full .now) (args .jackpot) (args .odd) (args .primary) (args .stakes) (args .paid .now),
     )
 
-mul-at : tie.Need-mul-at Inv-loop μ-loop
-mul-at c = omega (arith, c .before .before .pre .0 .entered .few)
+read-row-requires : tie.Need-read-row-requires Inv-loop μ-loop
+read-row-requires c κs = omega (arith, c .before .before .pre .0 .entered .few)
+
+mul-winning-ways : tie.Need-mul-winning-ways Inv-loop μ-loop
+mul-winning-ways c = omega (arith, c .before .before .before .pre .0 .entered .few)
+
+element-copy-out-winning-ways : tie.Need-element-copy-out-winning-ways Inv-loop μ-loop
+element-copy-out-winning-ways c = omega (arith, c .before .before .before .pre .0 .entered .few)
 
 winning-ways-requires : tie.Need-winning-ways-requires Inv-loop μ-loop
-winning-ways-requires c κs = omega (arith, c .before .before .pre .0 .entered .few)
-
-add-shares-of : tie.Need-add-shares-of Inv-loop μ-loop
-add-shares-of c = omega (arith, c .before .before .before .pre .0 .entered .few)
-
-mul-shares-of : tie.Need-mul-shares-of Inv-loop μ-loop
-mul-shares-of c = omega (arith, c .before .before .before .pre .0 .entered .few)
-
-element-copy-out-shares-of : tie.Need-element-copy-out-shares-of Inv-loop μ-loop
-element-copy-out-shares-of c = omega (arith, c .before .before .before .pre .0 .entered .few)
+winning-ways-requires c κs = search needs
 
 shares-of-requires : tie.Need-shares-of-requires Inv-loop μ-loop
-unfolding winnerAt
 shares-of-requires c κs =
-    let start = c .before .before .before .before in
+    let read = c .before .before in
+    let start = read .before .before .before in
     let args = start .args in
-    let i = c .before .before .before .loop .i in
-    subst (λ n. Sharing (args .primary) (args .stakes) n (getD (args .rows .now) (i * 16 + 3) 0)) (sym (c .before .winning-ways .ensures))
-    (sharing-at (args .rows .now) (args .full .now) (args .jackpot) (args .live) (args .primary) (args .stakes) (start .pre .0) i (c .before .before .loop-test .taken))
+    let i = read .before .before .loop .i in
+    row-sharing (args .rows .now) (args .full .now) (args .jackpot) i (read .read-row .result) (read .read-row .ensures) (c .winning-ways .result) (c .winning-ways .ensures) (args .primary) (args .stakes)
+    (sharing-at (args .rows .now) (args .full .now) (args .jackpot) (args .live) (args .primary) (args .stakes) (start .pre .0) i (read .before .loop-test .taken))
 
 mul-paid : tie.Need-mul-paid Inv-loop μ-loop
-mul-paid c = omega (arith, c .before .before .before .loop-test .taken, c .before .before .before .before .before .pre .0 .entered .few)
+mul-paid c = omega (arith, c .before .before .before .before .loop-test .taken, c .before .before .before .before .before .before .pre .0 .entered .few)
 
 element-copy-out-paid : tie.Need-element-copy-out-paid Inv-loop μ-loop
 element-copy-out-paid c =
-    omega (arith, c .before .before .before .loop-test .taken, c .before .before .before .before .before .pre .0 .entered .few)
+    omega (arith, c .before .before .before .before .loop-test .taken, c .before .before .before .before .before .before .pre .0 .entered .few)
 
 add-paid : tie.Need-add-paid Inv-loop μ-loop
 add-paid c =
-    let start = c .before .before .before .before .before .before in
+    let start = c .before .before .before .before .before .before .before in
     let args = start .args in
-    let turn = c .before .before .before .before .before .loop in
+    let turn = c .before .before .before .before .before .before .loop in
     omega (
       arith,
-      row-share (c .before),
-      share-most (args .rows .now) (args .full .now) (args .jackpot) (args .live) (args .primary) (args .stakes) (start .pre .0) (turn .i) (turn .left) (c .before .before .before .before .loop-test .taken),
+      share-found (c .before),
+      share-most (args .rows .now) (args .full .now) (args .jackpot) (args .live) (args .primary) (args .stakes) (start .pre .0) (turn .i) (turn .left) (c .before .before .before .before .before .loop-test .taken),
       given-next (args .rows .now) (args .full .now) (args .jackpot) (args .odd) (args .primary) (args .stakes) (args .paid .now) (turn .paid) (turn .i) (turn .inv .2),
-      start .pre .1 (turn .i) (c .before .before .before .before .loop-test .taken),
+      start .pre .1 (turn .i) (c .before .before .before .before .before .loop-test .taken),
       start .pre .0 .pool,
     )
 
 element-write-paid : tie.Need-element-write-paid Inv-loop μ-loop
 element-write-paid c =
-    omega (arith, c .before .before .before .before .loop-test .taken, c .before .before .before .before .before .before .pre .0 .entered .few)
+    omega (arith, c .before .before .before .before .before .loop-test .taken, c .before .before .before .before .before .before .before .pre .0 .entered .few)
 
 odd-after-requires : tie.Need-odd-after-requires Inv-loop μ-loop
 odd-after-requires c κs = search needs
 
 add-i : tie.Need-add-i Inv-loop μ-loop
-add-i c = omega (arith, c .before .before .before .before .before .loop-test .taken, c .before .before .before .before .before .before .before .pre .0 .entered .few)
+add-i c = omega (arith, c .before .before .before .before .before .before .loop-test .taken, c .before .before .before .before .before .before .before .before .pre .0 .entered .few)
 
 loop-less : tie.Need-loop-less Inv-loop μ-loop
-loop-less c = omega (arith, c .before .before .before .before .before .loop-test .taken)
+loop-less c = omega (arith, c .before .before .before .before .before .before .loop-test .taken)
 
 loop-again : tie.Need-loop-again Inv-loop μ-loop
 loop-again c =
-    let start = c .before .before .before .before .before .before .before in
+    let start = c .before .before .before .before .before .before .before .before in
     let args = start .args in
-    let turn = c .before .before .before .before .before .before .loop in
+    let turn = c .before .before .before .before .before .before .before .loop in
     let winners = winnersIn (args .rows .now) (args .full .now) (args .jackpot) (turn .i) in
     let winner = winnerAt (args .rows .now) (args .full .now) (args .jackpot) (turn .i) in (
-      omega (arith, c .before .before .before .before .before .loop-test .taken),
+      omega (arith, c .before .before .before .before .before .before .loop-test .taken),
       omega (
         arith,
         c .odd-after .ensures,
-        c .before .before .before .before .winning-ways .ensures,
+        row-ways (c .before .before .before),
         turn .inv .1,
         ways-more (args .rows .now) (args .full .now) (args .jackpot) (turn .i),
       ),
       given-more (args .rows .now) (args .full .now) (args .jackpot) (args .odd) (args .primary) (args .stakes) (args .paid .now) (turn .paid) (turn .i) (c .before .before .shares-of .result) (turn .inv .2)
-          (row-share (c .before .before)
+          (share-found (c .before .before)
           ∙ ap (λ n. winner .count * shareOf (args .primary) (args .stakes) (winner .stake) + min n (winner .count)) (turn .inv .1)),
     )
 
@@ -135,11 +141,10 @@ add-shares-spec =
     Inv-loop
     μ-loop
     loop-holds
-    mul-at
+    read-row-requires
+    mul-winning-ways
+    element-copy-out-winning-ways
     winning-ways-requires
-    add-shares-of
-    mul-shares-of
-    element-copy-out-shares-of
     shares-of-requires
     mul-paid
     element-copy-out-paid
