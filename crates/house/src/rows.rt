@@ -2,8 +2,7 @@
 // are the house's, in rising ticket number; what stands beyond is no part of it.
 ghost use mathlib.Core.Path.{_≡_};
 ghost use mathlib.Core.List.{List, [], _∷_, _++_};
-ghost use Prim.Native.Nat.{ℕ, _+_, _-_, _*_, _<_, _≤_, max};
-ghost use lib.Dec.{eqb};
+ghost use Prim.Native.Nat.{ℕ, _+_, _-_, _*_, _<_, _≤_};
 ghost use lib.ListN.{length, take, drop, set, getD};
 ghost use lib.Seq.{sets};
 ghost use Rattle.house.specs.Commands.{blankTicket};
@@ -267,14 +266,4 @@ pub fn remove_ticket(rows: &mut [u64; 3200], marks: &mut [u8; 16000], live: usiz
     let after = live - i - 1;
     shift_words_from(rows, i * 16, after * 16);
     shift_marks_from(marks, i * 80, after * 80);
-}
-
-// Whether a ticket of the games from `first` up to `stop` has none left where the given game is the current one.
-pub fn is_finished(game: u64, first: u64, stop: u64) -> bool
-    ensures { λ r. ⌜ r ≡ eqb (stop - max first game) 0 ⌝ }
-{
-    if stop <= game {
-        return true;
-    }
-    stop <= first
 }

@@ -1,7 +1,7 @@
 -- The till's sums over the live tickets, as sums over rows: what is owed and held reads no marks, each turn of a loop adds one row more, and
 -- what stands in the rows of a house that comes from a fresh one by commands fits.
 use Prim.Native.Nat.{ℕ, zero, suc, _+_, _-_, _*_, _≤_, _<_, _^_, min, max}
-use mathlib.Core.Path.{_≡_, refl, ap, _∙_, subst}
+use mathlib.Core.Path.{_≡_, refl, ap, _∙_, subst, subst⁻¹}
 use mathlib.Core.List.{List, [], map, map-map}
 use native.Mathlib.Nat.{add-zero}
 use native.Mathlib.Numerals.{add-one}
@@ -10,12 +10,11 @@ use lib.Dec.{ltb}
 use lib.ListN.{getD}
 use Rattle.sale.specs.Lists.{sum, below}
 use Rattle.prizes.specs.Jackpots.{pooled}
-use Rattle.sale.specs.Price.{chargeLimit, charge}
 use Rattle.house.specs.Tickets.{paidStakes, heldFor}
 use Rattle.house.specs.Commands.{blankTicket}
 use Rattle.house.specs.Till.{tillOf}
 use Rattle.queries.specs.Shown.{shownTill}
-use Rattle.house.specs.View.{rowOf, marksAt, ticketFrom, ticketIn, view}
+use Rattle.house.specs.View.{rowOf, marksAt, ticketFrom, ticketIn, PaidWithin, view}
 use Rattle.house.specs.Parts.{ComesWith}
 use Rattle.house.specs.declared.state.House.{House}
 use Rattle.house.specs.declared.rows.Row.{Row}
@@ -58,17 +57,11 @@ dueAt words i = getD words (i * 16 + 12) 0
 abbrev pub heldAt : ℕ → List ℕ → ℕ → ℕ
 heldAt game words i = heldFor game (ticketIn words [] i)
 
--- what is held for a ticket, from its row
-pub held-of-row : (held : ℕ) (w : Row) (words marks : List ℕ) (i game start : ℕ)
-    → held ≡ charge (w .stake) (w .ways) (min (w .stop) (w .free) - min start (w .free))
-    → w ≡ rowOf words (i * 16)
-    → start ≡ max (w .first) game
-    → held ≡ heldFor game (ticketIn words marks i)
-unfolding paidStakes
-held-of-row held w words marks i game start charged row begun =
-    charged
-    ∙ ap (λ n. charge (w .stake) (w .ways) (min (w .stop) (w .free) - min n (w .free))) begun
-    ∙ ap (λ w. heldFor game (ticketFrom w (marksAt marks i))) row
+-- what is held for a ticket, from the row that was read
+pub held-of-row : (game : ℕ) (words : List ℕ) (i : ℕ) (w : Row) → w ≡ rowOf words (i * 16)
+    → (held : ℕ) → ((marks : List ℕ) → held ≡ heldFor game (ticketFrom w marks)) → held ≡ heldAt game words i
+held-of-row game words i w read held asked =
+    asked (marksAt [] i) ∙ ap (λ v. heldFor game (ticketFrom v (marksAt [] i))) read
 
 -- the till of a house, given what is added up for it
 abbrev tillWith : House → ℕ → ℕ → ℕ → ℕ → Till
@@ -119,11 +112,12 @@ module _ (h : House) (words : List ℕ) (comes : ComesWith h words) where
       subst (Kept (h .game)) (getD-table (ticketIn words (comes .marks)) (h .live) i blankTicket b)
       (all-at (Kept (h .game)) (view h words (comes .marks) .live) (comes-sure .kept) i blankTicket (omega (arith, live-count h words (comes .marks))))
 
-  pub held-small : (i : ℕ) → i < h .live → (marks : List ℕ) → heldFor (h .game) (ticketIn words marks i) ≤ chargeLimit
+  pub held-small : (i : ℕ) → i < h .live → (w : Row) → w ≡ rowOf words (i * 16) → PaidWithin (max (w .first) (h .game)) (w .stop) w
   unfolding view paidStakes
-  held-small i b marks =
+  held-small i b w read =
       let t = ticketIn words (comes .marks) i in
-      span-paid-within (h .game) (max (t .first) (h .game)) (t .stop) t (row-kept i b) (omega arith)
+      subst⁻¹ (λ (v : Row). PaidWithin (max (v .first) (h .game)) (v .stop) v) read
+      (record { within = span-paid-within (h .game) (max (t .first) (h .game)) (t .stop) t (row-kept i b) (omega arith) })
 
   pub owed-fits : (i : ℕ) → i ≤ h .live → total (dueAt words) i < 2 ^ 62
   owed-fits i b =

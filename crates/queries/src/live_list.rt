@@ -1,4 +1,5 @@
 // The live list: the live tickets' numbers in a lent buffer. Any order will do; they are written in rising number, as the rows stand.
+use house::rows::read_row;
 use house::state::House;
 use numbers::bytes::write_u32;
 ghost use mathlib.Core.Path.{_≡_};
@@ -24,8 +25,8 @@ fn write_numbers(rows: &[u64; 3200], live: usize, out: &mut [u8])
 {
     let mut i = 0;
     while i < live {
-        let at = i * 16;
-        write_u32(out, i * 4, rows[at] as u32);
+        let row = read_row(rows, i);
+        write_u32(out, i * 4, row.number as u32);
         i += 1;
     }
 }

@@ -1,18 +1,15 @@
 // What can be read off the house: the nine figures of the till, and the jackpots' pools.
 use house::rows::read_row;
 use house::state::House;
-use numbers::order::max_u64;
-use numbers::order::min_u64;
+use house::ticket::held_for;
 use prizes::jackpot::Jackpot;
 ghost use mathlib.Core.Path.{_≡_};
 ghost use mathlib.Core.List.{List};
-ghost use Prim.Native.Nat.{ℕ, _+_, _-_, _^_, _≤_, _<_, min, max};
+ghost use Prim.Native.Nat.{ℕ, _+_, _-_, _^_, _<_, min, max};
 ghost use Rattle.prizes.specs.Jackpots.{pooled};
-ghost use Rattle.sale.specs.Price.{chargeLimit, charge};
-ghost use Rattle.house.specs.Tickets.{heldFor};
 ghost use Rattle.house.specs.Till.{tillOf};
 ghost use Rattle.queries.specs.Shown.{shownTill, poolsOf};
-ghost use Rattle.house.specs.View.{ticketIn, view};
+ghost use Rattle.house.specs.View.{view};
 ghost use Rattle.house.specs.Parts.{ComesWith};
 
 // The nine figures in document 01's order. Retained is its size, and `negative` says whether it is below zero.
@@ -63,29 +60,6 @@ fn apart(a: u64, b: u64) -> u64
     if a < b { b - a } else { a - b }
 }
 
-// The stakes of the games from one up to another that come before the first free one.
-fn stakes_between(stake: u64, ways: u64, free: u64, from: u64, upto: u64) -> u64
-    requires { ⌜ charge stake ways (min upto free - min from free) ≤ chargeLimit ⌝ }
-    ensures { λ r. ⌜ r ≡ charge stake ways (min upto free - min from free) ⌝ }
-{
-    let start = min_u64(from, free);
-    let end = min_u64(upto, free);
-    if end <= start {
-        return 0;
-    }
-    stake * ways * (end - start)
-}
-
-// What is held for the ticket at a place.
-fn held_at(rows: &[u64; 3200], i: usize, game: u64) -> u64
-    requires { ⌜ (i < 200) × ((marks : List ℕ) → heldFor game (ticketIn (now rows) marks i) ≤ chargeLimit) ⌝ }
-    ensures { λ r. ⌜ ((marks : List ℕ) → r ≡ heldFor game (ticketIn (now (rows .entry)) marks i)) ⌝ }
-{
-    let row = read_row(rows, i);
-    let from = max_u64(row.first, game);
-    stakes_between(row.stake, row.ways, row.free, from, row.stop)
-}
-
 // What is held for all live tickets.
 fn held_of(house: House, rows: &[u64; 3200]) -> u64
     requires { ⌜ ComesWith house (now rows) ⌝ }
@@ -96,7 +70,8 @@ fn held_of(house: House, rows: &[u64; 3200]) -> u64
     let mut held = 0;
     let mut i = 0;
     while i < live {
-        held += held_at(rows, i, game);
+        let row = read_row(rows, i);
+        held += held_for(game, row);
         i += 1;
     }
     held
@@ -111,8 +86,8 @@ fn owed_of(house: House, rows: &[u64; 3200]) -> u64
     let mut owed = 0;
     let mut i = 0;
     while i < live {
-        let at = i * 16;
-        owed += rows[at + 12];
+        let row = read_row(rows, i);
+        owed += row.due;
         i += 1;
     }
     owed

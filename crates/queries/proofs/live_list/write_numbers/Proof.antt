@@ -6,6 +6,7 @@ use borrow.Author.Needs.{needs}
 use mathlib.Core.List.{_++_}
 use lib.ListN.{length, take, drop}
 use Rattle.numbers.specs.Bytes.{bytesOf}
+use Rattle.house.specs.declared.rows.Row.{Row}
 use Rattle.queries.proofs.ListingLaws.{numberAt, listedTo, listed-none, listed-more}
 use Rattle.queries.proofs.live_list.write_numbers.Statement.{statement}
 use Rattle.queries.proofs.live_list.write_numbers.Tie as tie
@@ -19,23 +20,21 @@ abbrev μ-loop : tie.MeasureT-loop
 loop-holds : tie.Need-loop-holds Inv-loop μ-loop
 loop-holds c = (omega arith, refl, listed-none (numberAt (c .before .args .rows .now)) (c .before .args .out .now))
 
-mul-at : tie.Need-mul-at Inv-loop μ-loop
-mul-at c = search needs
+-- the row's number
+row-number : (c : tie.After-read-row Inv-loop μ-loop) → c .read-row .result .number ≡ numberAt (c .before .before .before .before .args .rows .now) (c .before .before .loop .i)
+row-number c = ap (λ (w : Row). w .number) (c .read-row .ensures)
+
+read-row-requires : tie.Need-read-row-requires Inv-loop μ-loop
+read-row-requires c κs = search needs
 
 mul-write-u32 : tie.Need-mul-write-u32 Inv-loop μ-loop
 mul-write-u32 c = search needs
-
-mul-write-u32-2 : tie.Need-mul-write-u32-2 Inv-loop μ-loop
-mul-write-u32-2 c = search needs
-
-element-copy-out-write-u32 : tie.Need-element-copy-out-write-u32 Inv-loop μ-loop
-element-copy-out-write-u32 c = search needs
 
 cast-write-u32 : tie.Need-cast-write-u32 Inv-loop μ-loop
 cast-write-u32 c =
     let start = c .before .before .before .before .before in
     let turn = c .before .before .before .loop in
-    record { fits = start .pre .2 (turn .i) (omega arith) }
+    record { fits = omega (arith, start .pre .2 (turn .i) (omega arith), row-number (c .before)) }
 
 write-u32-requires : tie.Need-write-u32-requires Inv-loop μ-loop
 write-u32-requires c κs =
@@ -58,6 +57,7 @@ loop-again c =
       omega arith,
       put .kept .0 ∙ turn .inv .1,
       put .ensures
+          ∙ ap (λ n. take (turn .i * 4) (turn .out) ++ bytesOf 4 n ++ drop (turn .i * 4 + 4) (turn .out)) (row-number (c .before .before .before .before))
           ∙ ap (λ l. take (turn .i * 4) l ++ bytesOf 4 (numberAt (args .rows .now) (turn .i)) ++ drop (turn .i * 4 + 4) l) (turn .inv .2)
           ∙ listed-more (numberAt (args .rows .now)) (turn .i) (args .out .now),
     )
@@ -80,10 +80,8 @@ write-numbers-spec =
     Inv-loop
     μ-loop
     loop-holds
-    mul-at
+    read-row-requires
     mul-write-u32
-    mul-write-u32-2
-    element-copy-out-write-u32
     cast-write-u32
     write-u32-requires
     add-i

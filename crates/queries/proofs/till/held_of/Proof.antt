@@ -1,10 +1,9 @@
 -- `queries::till::held_of` meets its contract: each turn adds what is held for one row more, and the whole fits.
 use Prim.Native.Nat.{_+_, _-_, _≤_}
 use mathlib.Core.Path.{_≡_, sym, ap, _∙_}
-use mathlib.Core.List.{[]}
 use native.Mathlib.Omega.{arith}
 use borrow.Author.Needs.{needs}
-use Rattle.queries.proofs.TillLaws.{total, total-none, total-more, heldAt, held-rows, held-small, held-fits, rows-few}
+use Rattle.queries.proofs.TillLaws.{total, total-none, total-more, heldAt, held-of-row, held-rows, held-small, held-fits, rows-few}
 use Rattle.queries.proofs.till.held_of.Statement.{statement}
 use Rattle.queries.proofs.till.held_of.Tie as tie
 
@@ -17,20 +16,33 @@ abbrev μ-loop : tie.MeasureT-loop
 loop-holds : tie.Need-loop-holds Inv-loop μ-loop
 loop-holds c = (omega arith, rows-few (c .args .house) (c .args .rows .now) (c .pre), sym (total-none (heldAt (c .args .house .game) (c .args .rows .now))))
 
-held-at-requires : tie.Need-held-at-requires Inv-loop μ-loop
-held-at-requires c κs =
-    let start = c .before .before in
-    let turn = c .before .loop in
-    (omega arith, held-small (start .args .house) (start .args .rows .now) (start .pre) (turn .i) (omega arith))
+-- what is held for the row's ticket
+row-held : (c : tie.After-held-for Inv-loop μ-loop) →
+    let args = c .before .before .before .before .args in
+    c .held-for .result ≡ heldAt (args .house .game) (args .rows .now) (c .before .before .before .loop .i)
+row-held c =
+    let read = c .before in
+    let args = read .before .before .before .args in
+    held-of-row (args .house .game) (args .rows .now) (read .before .before .loop .i) (read .read-row .result) (read .read-row .ensures) (c .held-for .result) (c .held-for .ensures)
+
+read-row-requires : tie.Need-read-row-requires Inv-loop μ-loop
+read-row-requires c κs = search needs
+
+held-for-requires : tie.Need-held-for-requires Inv-loop μ-loop
+held-for-requires c κs =
+    let turning = c .before in
+    let start = turning .before .before in
+    held-small (start .args .house) (start .args .rows .now) (start .pre) (turning .before .loop .i) (omega (arith, turning .loop-test .taken)) (c .read-row .result) (c .read-row .ensures)
 
 add-held : tie.Need-add-held Inv-loop μ-loop
 add-held c =
-    let start = c .before .before .before in
+    let turning = c .before .before in
+    let start = turning .before .before in
     let house = start .args .house in
-    let turn = c .before .before .loop in
+    let turn = turning .before .loop in
     let rows = start .args .rows .now in
-    let more = held-fits house rows (start .pre) (turn .i + 1) (omega arith) in
-    omega (arith, more, total-more (heldAt (house .game) rows) (turn .i), c .held-at .ensures [])
+    let more = held-fits house rows (start .pre) (turn .i + 1) (omega (arith, turning .loop-test .taken)) in
+    omega (arith, more, total-more (heldAt (house .game) rows) (turn .i), row-held c, turn .inv .2)
 
 add-i : tie.Need-add-i Inv-loop μ-loop
 add-i c = search needs
@@ -40,8 +52,9 @@ loop-less c = search needs
 
 loop-again : tie.Need-loop-again Inv-loop μ-loop
 loop-again c =
-    let args = c .before .before .before .args in
-    (omega arith, omega arith, omega (arith, total-more (heldAt (args .house .game) (args .rows .now)) (c .before .before .loop .i), c .held-at .ensures []))
+    let turning = c .before .before in
+    let args = turning .before .before .args in
+    (omega arith, omega arith, omega (arith, total-more (heldAt (args .house .game) (args .rows .now)) (turning .before .loop .i), row-held c, turning .before .loop .inv .2))
 
 returns : tie.Need-returns Inv-loop μ-loop
 returns c = λ marks.
@@ -59,7 +72,8 @@ held-of-spec =
     Inv-loop
     μ-loop
     loop-holds
-    held-at-requires
+    read-row-requires
+    held-for-requires
     add-held
     add-i
     loop-less

@@ -3,6 +3,7 @@ use Prim.Native.Nat.{_+_, _-_, _≤_}
 use mathlib.Core.Path.{_≡_, sym, ap, _∙_}
 use native.Mathlib.Omega.{arith}
 use borrow.Author.Needs.{needs}
+use Rattle.house.specs.declared.rows.Row.{Row}
 use Rattle.queries.proofs.TillLaws.{total, total-none, total-more, dueAt, owed-rows, owed-fits, rows-few}
 use Rattle.queries.proofs.till.owed_of.Statement.{statement}
 use Rattle.queries.proofs.till.owed_of.Tie as tie
@@ -16,25 +17,21 @@ abbrev μ-loop : tie.MeasureT-loop
 loop-holds : tie.Need-loop-holds Inv-loop μ-loop
 loop-holds c = (omega arith, rows-few (c .args .house) (c .args .rows .now) (c .pre), sym (total-none (dueAt (c .args .rows .now))))
 
-mul-at : tie.Need-mul-at Inv-loop μ-loop
-mul-at c = search needs
+-- the row's due
+row-due : (c : tie.After-read-row Inv-loop μ-loop) → c .read-row .result .due ≡ dueAt (c .before .before .before .args .rows .now) (c .before .before .loop .i)
+row-due c = ap (λ (w : Row). w .due) (c .read-row .ensures)
+
+read-row-requires : tie.Need-read-row-requires Inv-loop μ-loop
+read-row-requires c κs = search needs
 
 add-owed : tie.Need-add-owed Inv-loop μ-loop
-add-owed c = search needs
-
-mul-owed : tie.Need-mul-owed Inv-loop μ-loop
-mul-owed c = search needs
-
-element-copy-out-owed : tie.Need-element-copy-out-owed Inv-loop μ-loop
-element-copy-out-owed c = search needs
-
-add-owed-2 : tie.Need-add-owed-2 Inv-loop μ-loop
-add-owed-2 c =
-    let start = c .before .before .before in
-    let turn = c .before .before .loop in
+add-owed c =
+    let turning = c .before .before in
+    let start = turning .before .before in
+    let turn = turning .before .loop in
     let rows = start .args .rows .now in
     let more = owed-fits (start .args .house) rows (start .pre) (turn .i + 1) (omega arith) in
-    omega (arith, more, total-more (dueAt rows) (turn .i))
+    omega (arith, more, total-more (dueAt rows) (turn .i), row-due (c .before))
 
 add-i : tie.Need-add-i Inv-loop μ-loop
 add-i c = search needs
@@ -44,8 +41,9 @@ loop-less c = search needs
 
 loop-again : tie.Need-loop-again Inv-loop μ-loop
 loop-again c =
-    let rows = c .before .before .before .args .rows .now in
-    (omega arith, omega arith, omega (arith, total-more (dueAt rows) (c .before .before .loop .i)))
+    let turning = c .before .before in
+    let rows = turning .before .before .args .rows .now in
+    (omega arith, omega arith, omega (arith, total-more (dueAt rows) (turning .before .loop .i), row-due (c .before)))
 
 returns : tie.Need-returns Inv-loop μ-loop
 returns c = λ marks.
@@ -61,11 +59,8 @@ owed-of-spec =
     Inv-loop
     μ-loop
     loop-holds
-    mul-at
+    read-row-requires
     add-owed
-    mul-owed
-    element-copy-out-owed
-    add-owed-2
     add-i
     loop-less
     loop-again
