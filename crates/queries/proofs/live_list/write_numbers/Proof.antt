@@ -32,14 +32,16 @@ mul-write-u32 c = search needs
 
 cast-write-u32 : tie.Need-cast-write-u32 Inv-loop μ-loop
 cast-write-u32 c =
-    let start = c .before .before .before .before .before in
-    let turn = c .before .before .before .loop in
-    record { fits = omega (arith, start .pre .2 (turn .i) (omega arith), row-number (c .before)) }
+    let read = c .before .before in
+    let start = read .before .before .before .before in
+    let turn = read .before .before .loop in
+    record { fits = omega (arith, start .pre .2 (turn .i) (omega arith), row-number read) }
 
 write-u32-requires : tie.Need-write-u32-requires Inv-loop μ-loop
 write-u32-requires c κs =
-    let start = c .before .before .before .before .before in
-    let turn = c .before .before .before .loop in
+    let read = c .before .before in
+    let start = read .before .before .before .before in
+    let turn = read .before .before .loop in
     omega (arith, turn .inv, start .pre)
 
 add-i : tie.Need-add-i Inv-loop μ-loop
@@ -50,14 +52,14 @@ loop-less c = search needs
 
 loop-again : tie.Need-loop-again Inv-loop μ-loop
 loop-again c =
-    let start = c .before .before .before .before .before .before .before .before in
-    let args = start .args in
-    let turn = c .before .before .before .before .before .before .loop in
-    let put = c .before .before .write-u32 in (
+    let put = c .before .before .write-u32 in
+    let read = c .before .before .before .before .before in
+    let args = read .before .before .before .before .args in
+    let turn = read .before .before .loop in (
       omega arith,
       put .kept .0 ∙ turn .inv .1,
       put .ensures
-          ∙ ap (λ n. take (turn .i * 4) (turn .out) ++ bytesOf 4 n ++ drop (turn .i * 4 + 4) (turn .out)) (row-number (c .before .before .before .before))
+          ∙ ap (λ n. take (turn .i * 4) (turn .out) ++ bytesOf 4 n ++ drop (turn .i * 4 + 4) (turn .out)) (row-number read)
           ∙ ap (λ l. take (turn .i * 4) l ++ bytesOf 4 (numberAt (args .rows .now) (turn .i)) ++ drop (turn .i * 4 + 4) l) (turn .inv .2)
           ∙ listed-more (numberAt (args .rows .now)) (turn .i) (args .out .now),
     )
