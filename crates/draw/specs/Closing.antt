@@ -1,6 +1,6 @@
 -- What the last steps of a game's code give each other: a ticket after the game, the house once it has taken in a settled game, and what the steps
 -- ask of their callers.
-use Prim.Native.Nat.{ℕ, _+_, _*_, _≤_, _<_, _^_}
+use Prim.Native.Nat.{ℕ, _+_, _≤_, _<_, _^_}
 use mathlib.Core.Path.{_≡_}
 use mathlib.Core.List.{List}
 use lib.ListN.{length, getD}
@@ -10,7 +10,7 @@ use Rattle.house.specs.Tickets.{Ticket, withDue}
 use Rattle.house.specs.Model.{Model, withSeeds, withGained, withLost}
 use Rattle.house.specs.Commands.{ball, codeOf, ballsWith, finishedOn}
 use Rattle.house.specs.Balance.{Reached}
-use Rattle.house.specs.View.{rowOf}
+use Rattle.house.specs.View.{rowAt}
 use Rattle.house.specs.declared.state.House.{House}
 use Rattle.house.specs.declared.state.Counters.{Counters}
 use Rattle.settlement.specs.declared.settle.Settlement.{Settlement}
@@ -51,7 +51,7 @@ pub record RoomyCounters (c : Counters) : Type 0 where
 pub record Endable (h : House) (words awards : List ℕ) : Type 0 where
   pub few : h .live ≤ 200
   pub game : h .game < 2 ^ 62
-  pub room : (i : ℕ) → i < h .live → rowOf words (i * 16) .due + getD awards i 0 < 2 ^ 64
+  pub room : (i : ℕ) → i < h .live → rowAt words i .due + getD awards i 0 < 2 ^ 64
 
 -- the draw that an accepted ball completes, its game's twentieth
 pub record Draws (m : Model) (number : ℕ) (draw : Draw) : Type 0 where

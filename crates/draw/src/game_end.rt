@@ -11,10 +11,10 @@ use house::ticket::is_finished;
 ghost use mathlib.Core.Path.{_≡_};
 ghost use mathlib.Core.Bool.{true};
 ghost use mathlib.Core.List.{List, [], _∷_, _++_};
-ghost use Prim.Native.Nat.{ℕ, _+_, _*_, _≤_, _<_, _^_};
+ghost use Prim.Native.Nat.{ℕ, _+_, _≤_, _<_, _^_};
 ghost use lib.ListN.{take, drop};
 ghost use Rattle.house.specs.Commands.{stillLive, ticketsAfterGame, gameEnded};
-ghost use Rattle.house.specs.View.{rowOf, ticketFrom, ticketIn, ticketsOf, view};
+ghost use Rattle.house.specs.View.{rowAt, ticketFrom, ticketIn, ticketsOf, view};
 ghost use Rattle.settlement.specs.Settling.{spread};
 ghost use Rattle.draw.specs.Closing.{paidTicket, Endable};
 
@@ -52,7 +52,7 @@ fn close_ticket(
     game: u64,
     cents: u64,
 ) -> usize
-    requires { ⌜ (left ≤ i) × (i < 200) × (rowOf (now rows) (i * 16) .due + cents < 2 ^ 64) ⌝ }
+    requires { ⌜ (left ≤ i) × (i < 200) × (rowAt (now rows) i .due + cents < 2 ^ 64) ⌝ }
     ensures count { λ r. ⌜ r ≤ left + 1 ⌝ }
     ensures stay { λ r. ⌜ take r (ticketsOf (now (rows .exit)) (now (marks .exit))) ≡ take left (ticketsOf (now (rows .entry)) (now (marks .entry))) ++ stillLive game (paidTicket day game cents (ticketIn (now (rows .entry)) (now (marks .entry)) i) ∷ []) ⌝ }
     ensures rest { λ r. ⌜ drop (i + 1) (ticketsOf (now (rows .exit)) (now (marks .exit))) ≡ drop (i + 1) (ticketsOf (now (rows .entry)) (now (marks .entry))) ⌝ }

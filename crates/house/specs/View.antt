@@ -35,6 +35,10 @@ rowOf words at =
       sizes = getD words (at + 14) 0;
     }
 
+-- the row at a place of the buffer, of 16 words each
+abbrev pub rowAt : List ℕ → ℕ → Row
+rowAt words i = rowOf words (i * 16)
+
 unfoldable pub putRow : List ℕ → ℕ → Row → List ℕ
 putRow words at w =
     sets words at
@@ -65,7 +69,7 @@ ticketFrom w marks =
     }
 
 abbrev pub ticketIn : List ℕ → List ℕ → ℕ → Ticket
-ticketIn words marks i = ticketFrom (rowOf words (i * 16)) (marksAt marks i)
+ticketIn words marks i = ticketFrom (rowAt words i) (marksAt marks i)
 
 -- all 200 rows
 unfoldable pub ticketsOf : List ℕ → List ℕ → List Ticket

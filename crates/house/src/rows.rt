@@ -6,7 +6,7 @@ ghost use Prim.Native.Nat.{ℕ, _+_, _-_, _*_, _<_, _≤_};
 ghost use lib.ListN.{length, take, drop, set, getD};
 ghost use lib.Seq.{sets};
 ghost use Rattle.house.specs.Commands.{blankTicket};
-ghost use Rattle.house.specs.View.{rowOf, putRow, marksAt, putMarks, ticketFrom, ticketsOf, placeOf, IsRow, IsLiveRow, MarkedRow, MovesDown, RisingRows, without, shifted};
+ghost use Rattle.house.specs.View.{rowAt, putRow, marksAt, putMarks, ticketFrom, ticketsOf, placeOf, IsRow, IsLiveRow, MarkedRow, MovesDown, RisingRows, without, shifted};
 
 // A buffer is as long as its type says: learnt by lending it as a slice.
 pub fn known_words(rows: &[u64; 3200])
@@ -48,7 +48,7 @@ pub struct Row {
 // The row at a place.
 pub fn read_row(rows: &[u64; 3200], i: usize) -> Row
     requires { ⌜ IsRow i ⌝ }
-    ensures { λ r. ⌜ r ≡ rowOf (now (rows .entry)) (i * 16) ⌝ }
+    ensures { λ r. ⌜ r ≡ rowAt (now (rows .entry)) i ⌝ }
 {
     let at = i * 16;
     Row {

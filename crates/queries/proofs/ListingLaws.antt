@@ -7,13 +7,13 @@ use native.Mathlib.Numerals.{add-one}
 use native.Mathlib.Omega.{arith}
 use borrow.Author.Tests.{eqb-true, ne-eqb, lt-ltb, le-ltb}
 use lib.Dec.{eqb}
-use lib.ListN.{length, getD, take, drop}
+use lib.ListN.{length, take, drop}
 use lib.Seq.{take-at, drop-append-add, drop-drop}
 use Rattle.numbers.specs.Bytes.{bytesOf}
 use Rattle.sale.specs.Lists.{keep, any, member, below}
 use Rattle.house.specs.Tickets.{Ticket}
 use Rattle.house.specs.Commands.{blankTicket}
-use Rattle.house.specs.View.{ticketIn, view}
+use Rattle.house.specs.View.{rowAt, ticketIn, view}
 use Rattle.house.specs.Parts.{ComesWith}
 use Rattle.queries.specs.Listing.{listBytes, Listing}
 use Rattle.house.specs.declared.state.House.{House}
@@ -51,7 +51,7 @@ rising-once n (t ∷ ts) (above, rising) = go (eqb n (t .number)) refl (rising-o
 -- ---- the rows of a house that comes from a fresh one by commands
 
 abbrev pub numberAt : List ℕ → ℕ → ℕ
-numberAt words i = getD words (i * 16) 0
+numberAt words i = rowAt words i .number
 
 pub numbers-rows : (h : House) (words marks : List ℕ) → numbersOf (view h words marks .live) ≡ map (numberAt words) (below (h .live))
 unfolding view

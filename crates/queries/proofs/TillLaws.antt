@@ -1,20 +1,19 @@
 -- The till's sums over the live tickets, as sums over rows: what is owed and held reads no marks, each turn of a loop adds one row more, and
 -- what stands in the rows of a house that comes from a fresh one by commands fits.
-use Prim.Native.Nat.{ℕ, zero, suc, _+_, _-_, _*_, _≤_, _<_, _^_, min, max}
+use Prim.Native.Nat.{ℕ, zero, suc, _+_, _-_, _≤_, _<_, _^_, min, max}
 use mathlib.Core.Path.{_≡_, refl, ap, _∙_, subst, subst⁻¹}
 use mathlib.Core.List.{List, [], map, map-map}
 use native.Mathlib.Nat.{add-zero}
 use native.Mathlib.Numerals.{add-one}
 use native.Mathlib.Omega.{arith}
 use lib.Dec.{ltb}
-use lib.ListN.{getD}
 use Rattle.sale.specs.Lists.{sum, below}
 use Rattle.prizes.specs.Jackpots.{pooled}
 use Rattle.house.specs.Tickets.{paidStakes, heldFor}
 use Rattle.house.specs.Commands.{blankTicket}
 use Rattle.house.specs.Till.{tillOf}
 use Rattle.queries.specs.Shown.{shownTill}
-use Rattle.house.specs.View.{rowOf, marksAt, ticketFrom, ticketIn, PaidWithin, view}
+use Rattle.house.specs.View.{rowAt, marksAt, ticketFrom, ticketIn, PaidWithin, view}
 use Rattle.house.specs.Parts.{ComesWith}
 use Rattle.house.specs.declared.state.House.{House}
 use Rattle.house.specs.declared.rows.Row.{Row}
@@ -52,13 +51,13 @@ total-part f i n h =
 
 -- what is owed to the ticket of a row, and held for it
 abbrev pub dueAt : List ℕ → ℕ → ℕ
-dueAt words i = getD words (i * 16 + 12) 0
+dueAt words i = rowAt words i .due
 
 abbrev pub heldAt : ℕ → List ℕ → ℕ → ℕ
 heldAt game words i = heldFor game (ticketIn words [] i)
 
 -- what is held for a ticket, from the row that was read
-pub held-of-row : (game : ℕ) (words : List ℕ) (i : ℕ) (w : Row) → w ≡ rowOf words (i * 16)
+pub held-of-row : (game : ℕ) (words : List ℕ) (i : ℕ) (w : Row) → w ≡ rowAt words i
     → (held : ℕ) → ((marks : List ℕ) → held ≡ heldFor game (ticketFrom w marks)) → held ≡ heldAt game words i
 held-of-row game words i w read held asked =
     asked (marksAt [] i) ∙ ap (λ v. heldFor game (ticketFrom v (marksAt [] i))) read
@@ -112,7 +111,7 @@ module _ (h : House) (words : List ℕ) (comes : ComesWith h words) where
       subst (Kept (h .game)) (getD-table (ticketIn words (comes .marks)) (h .live) i blankTicket b)
       (all-at (Kept (h .game)) (view h words (comes .marks) .live) (comes-sure .kept) i blankTicket (omega (arith, live-count h words (comes .marks))))
 
-  pub held-small : (i : ℕ) → i < h .live → (w : Row) → w ≡ rowOf words (i * 16) → PaidWithin (max (w .first) (h .game)) (w .stop) w
+  pub held-small : (i : ℕ) → i < h .live → (w : Row) → w ≡ rowAt words i → PaidWithin (max (w .first) (h .game)) (w .stop) w
   unfolding view paidStakes
   held-small i b w read =
       let t = ticketIn words (comes .marks) i in

@@ -5,9 +5,9 @@ use numbers::bytes::write_u32;
 ghost use mathlib.Core.Path.{_≡_};
 ghost use mathlib.Core.List.{List, map, _++_};
 ghost use Prim.Native.Nat.{ℕ, _*_, _≤_, _<_, _^_};
-ghost use lib.ListN.{length, drop, getD};
+ghost use lib.ListN.{length, drop};
 ghost use Rattle.sale.specs.Lists.{below};
-ghost use Rattle.house.specs.View.{view};
+ghost use Rattle.house.specs.View.{rowAt, view};
 ghost use Rattle.house.specs.Parts.{ComesWith};
 ghost use Rattle.queries.specs.Listing.{listBytes, Listing};
 
@@ -20,8 +20,8 @@ pub struct Listed {
 
 // The numbers of the first tickets, one after another.
 fn write_numbers(rows: &[u64; 3200], live: usize, out: &mut [u8])
-    requires { ⌜ (live ≤ 200) × (4 * live ≤ length (now out)) × ((i : ℕ) → i < live → getD (now rows) (i * 16) 0 < 2 ^ 32) ⌝ }
-    ensures { λ r. ⌜ now (out .exit) ≡ listBytes (map (λ i. getD (now (rows .entry)) (i * 16) 0) (below live)) ++ drop (4 * live) (now (out .entry)) ⌝ }
+    requires { ⌜ (live ≤ 200) × (4 * live ≤ length (now out)) × ((i : ℕ) → i < live → rowAt (now rows) i .number < 2 ^ 32) ⌝ }
+    ensures { λ r. ⌜ now (out .exit) ≡ listBytes (map (λ i. rowAt (now (rows .entry)) i .number) (below live)) ++ drop (4 * live) (now (out .entry)) ⌝ }
 {
     let mut i = 0;
     while i < live {

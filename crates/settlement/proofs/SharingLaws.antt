@@ -25,7 +25,7 @@ use Rattle.prizes.specs.declared.jackpot.Jackpot.{Jackpot}
 use Rattle.sale.proofs.KeepLaws.{length-keep-le}
 use Rattle.sale.proofs.WayLaws.{ways-few}
 use Rattle.house.specs.Tickets.{Ticket, runsIn, paidStakes, entryOf}
-use Rattle.house.specs.View.{rowOf, marksAt, ticketFrom, ticketIn, view}
+use Rattle.house.specs.View.{rowAt, marksAt, ticketFrom, ticketIn, view}
 use Rattle.house.specs.Balance.{Reached}
 use Rattle.house.specs.Commands.{blankTicket}
 use Rattle.settlement.specs.Settling.{entriesOf, spread, fullIn, guaranteeOf, SharedOut}
@@ -65,7 +65,7 @@ module _ (words : List ℕ) (game i : ℕ) where
   -- from the row that was read
   pub paid-of-row :
       (w : Row)
-      → w ≡ rowOf words (i * 16)
+      → w ≡ rowAt words i
       → (own : ℕ)
       → ((marks : List ℕ) → own ≡ cond (runsIn game (ticketFrom w marks)) (paidStakes game (game + 1) (ticketFrom w marks)) 0)
       → own ≡ paidAt words game i
@@ -95,7 +95,7 @@ module _ (words : List ℕ) (game : ℕ) where
     unfolding stakesIn below sum
     stakes-none = refl
 
-    pub stakes-more : (i : ℕ) → stakesIn words game j (i + 1) ≡ stakesIn words game j i + cond (eqb (rowOf words (i * 16) .jackpot) j) (paidAt words game i) 0
+    pub stakes-more : (i : ℕ) → stakesIn words game j (i + 1) ≡ stakesIn words game j i + cond (eqb (rowAt words i .jackpot) j) (paidAt words game i) 0
     unfolding stakesIn stakesAt below
     stakes-more i =
         ap (λ n. sum (map (stakesAt words game j) (below n))) (add-one i) ∙ sum-snoc (stakesAt words game j) (below i) i
@@ -114,7 +114,7 @@ module _ (words : List ℕ) (game : ℕ) where
           arith,
           stakes-more j i,
           stakes-within j i (omega arith),
-          within-by (eqb (rowOf words (i * 16) .jackpot) j) (paid-at-within words game i (entered .within i (omega arith))),
+          within-by (eqb (rowAt words i .jackpot) j) (paid-at-within words game i (entered .within i (omega arith))),
         ))
 
 module _ (words full : List ℕ) (j : ℕ) where
@@ -184,7 +184,7 @@ module _ (words full : List ℕ) (j : ℕ) where
   module _ (live : ℕ) (entered : Entered words full live) where
     winners-few : (i : ℕ) → i < live → winnerAt words full j i .count ≤ 255
     unfolding winnerAt
-    winners-few i h = within-by (eqb (rowOf words (i * 16) .jackpot) j) (entered .ways i h)
+    winners-few i h = within-by (eqb (rowAt words i .jackpot) j) (entered .ways i h)
 
     winning-at-within : (i : ℕ) → i < live → winnerAt words full j i .count * winnerAt words full j i .stake ≤ 255 * chargeLimit
     unfolding winnerAt
@@ -231,7 +231,7 @@ module _ (words full : List ℕ) (j : ℕ) where
 pub no-stakes : (words full : List ℕ) (game j : ℕ) → stakesOf words full game j 0 ≡ record { jackpot = j; paid = 0; winning = 0 }
 no-stakes words full game j = λ k. record { jackpot = j; paid = stakes-none words game j k; winning = winning-none words full j k }
 
-module _ (words full : List ℕ) (game j i own : ℕ) (s : Stakes) (held : s ≡ stakesOf words full game j i) (w : Row) (read : w ≡ rowOf words (i * 16)) (paid : own ≡ paidAt words game i) where
+module _ (words full : List ℕ) (game j i own : ℕ) (s : Stakes) (held : s ≡ stakesOf words full game j i) (w : Row) (read : w ≡ rowAt words i) (paid : own ≡ paidAt words game i) where
   pub stakes-room : (live : ℕ) → Entered words full live → i < live
       → (s .paid + own < 2 ^ 64) × (s .winning + getD full i 0 * w .stake < 2 ^ 64)
   stakes-room live entered h =
@@ -262,7 +262,7 @@ module _ (words full : List ℕ) (game j i own : ℕ) (s : Stakes) (held : s ≡
 
 -- ---- one row's winning ways, from the row that was read
 
-module _ (words full : List ℕ) (j i : ℕ) (w : Row) (read : w ≡ rowOf words (i * 16)) (count : ℕ) (counted : count ≡ winnerFrom w (getD full i 0) j .count) where
+module _ (words full : List ℕ) (j i : ℕ) (w : Row) (read : w ≡ rowAt words i) (count : ℕ) (counted : count ≡ winnerFrom w (getD full i 0) j .count) where
   pub row-count : count ≡ winnerAt words full j i .count
   unfolding winnerAt
   row-count = counted ∙ ap (λ v. winnerFrom v (getD full i 0) j .count) read

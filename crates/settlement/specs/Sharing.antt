@@ -10,7 +10,7 @@ use Rattle.sale.specs.Lists.{sum, below}
 use Rattle.sale.specs.Price.{chargeLimit}
 use Rattle.prizes.specs.Jackpots.{Winner, winningStakes}
 use Rattle.house.specs.Tickets.{runsIn, paidStakes}
-use Rattle.house.specs.View.{rowOf, ticketIn}
+use Rattle.house.specs.View.{rowAt, ticketIn}
 use Rattle.house.specs.declared.rows.Row.{Row}
 use Rattle.settlement.specs.declared.figures.Stakes.{Stakes}
 use Rattle.settlement.specs.declared.figures.GameFigures.{GameFigures}
@@ -26,7 +26,7 @@ paidIn words game live = sum (map (paidAt words game) (below live))
 
 -- the same, where the ticket plays for the jackpot
 unfoldable pub stakesAt : List ℕ → ℕ → ℕ → ℕ → ℕ
-stakesAt words game j i = cond (eqb (rowOf words (i * 16) .jackpot) j) (paidAt words game i) 0
+stakesAt words game j i = cond (eqb (rowAt words i .jackpot) j) (paidAt words game i) 0
 
 unfoldable pub stakesIn : List ℕ → ℕ → ℕ → ℕ → ℕ
 stakesIn words game j live = sum (map (stakesAt words game j) (below live))
@@ -36,7 +36,7 @@ abbrev pub winnerFrom : Row → ℕ → ℕ → Winner
 winnerFrom w matches j = record { count = cond (eqb (w .jackpot) j) matches 0; stake = w .stake }
 
 unfoldable pub winnerAt : List ℕ → List ℕ → ℕ → ℕ → Winner
-winnerAt words full j i = winnerFrom (rowOf words (i * 16)) (getD full i 0) j
+winnerAt words full j i = winnerFrom (rowAt words i) (getD full i 0) j
 
 unfoldable pub winnersIn : List ℕ → List ℕ → ℕ → ℕ → List Winner
 winnersIn words full j live = map (winnerAt words full j) (below live)
@@ -54,8 +54,8 @@ figuresOf words paid full game live =
 -- rows whose stakes are within the most that a ticket can cost, with at most 255 full matches each
 pub record Entered (words full : List ℕ) (live : ℕ) : Type 0 where
   pub few : live ≤ 200
-  pub within : (i : ℕ) → i < live → rowOf words (i * 16) .stake * rowOf words (i * 16) .ways ≤ chargeLimit
-  pub stakes : (i : ℕ) → i < live → rowOf words (i * 16) .stake ≤ chargeLimit
+  pub within : (i : ℕ) → i < live → rowAt words i .stake * rowAt words i .ways ≤ chargeLimit
+  pub stakes : (i : ℕ) → i < live → rowAt words i .stake ≤ chargeLimit
   pub ways : (i : ℕ) → i < live → getD full i 0 ≤ 255
 
 -- a primary that they share by their stakes, with room for the odd cents beside it

@@ -1,6 +1,6 @@
 -- `tickets::cancel::cancel_ticket` meets its contract: the refusals are the table's rows in their order, and a cancelled ticket is the found one
 -- with its games cut off, whose refund a reached house has room for.
-use Prim.Native.Nat.{ℕ, _+_, _*_, _^_, _≤_, _<_, min, max}
+use Prim.Native.Nat.{ℕ, _+_, _^_, _≤_, _<_, min, max}
 use native.Mathlib.Omega.{arith}
 use mathlib.Core.Path.{_≡_, sym, ap, ap₂, _∙_, subst, subst⁻¹}
 use mathlib.Core.Bool.{not}
@@ -14,7 +14,7 @@ use Rattle.house.specs.Tickets.{Ticket, paidStakes, withStop}
 use Rattle.house.specs.Model.{withRefunded}
 use Rattle.house.specs.Commands.{changed, stillLive, finishedOn, lookupRows, cancelStop, cancelledTicket, cancel, rowsOf, codeOf, refundOf, cancelled, act, reply}
 use Rattle.house.specs.Till.{tillOf}
-use Rattle.house.specs.View.{rowOf, marksAt, ticketFrom, ticketIn, ticketsOf, PaidWithin, view}
+use Rattle.house.specs.View.{rowAt, marksAt, ticketFrom, ticketIn, ticketsOf, PaidWithin, view}
 use Rattle.tickets.specs.Steps.{cancelRows, replaced}
 use Rattle.house.specs.declared.state.House.{House}
 use Rattle.house.proofs.Ledger.{Kept, withLive}
@@ -73,7 +73,7 @@ module _ {h : House} {words marks : List ℕ} {n p : ℕ} (found : FoundTicket h
     refund-within : refundIn h words marks p ≤ chargeLimit
     refund-within = span-paid-within (h .game) (stopIn h words marks p) (ticketIn words marks p .stop) (ticketIn words marks p) kept (omega arith)
 
-    refund-fits : PaidWithin (stopIn h words marks p) (rowOf words (p * 16) .stop) (rowOf words (p * 16))
+    refund-fits : PaidWithin (stopIn h words marks p) (rowAt words p .stop) (rowAt words p)
     unfolding paidStakes
     refund-fits = record { within = refund-within }
 
@@ -199,7 +199,7 @@ paid-stakes-requires : tie.Need-paid-stakes-requires
 paid-stakes-requires c κs =
     let found = c .before .before .before .before .before .before in
     subst⁻¹ (λ row. PaidWithin (c .before .before .max-u64 .result) (row .stop) row) (c .before .before .before .before .read-row .ensures)
-    (subst⁻¹ (λ stop. PaidWithin stop (rowOf (start found .args .rows .now) (place found * 16) .stop) (rowOf (start found .args .rows .now) (place found * 16))) (stop-at (c .before .before))
+    (subst⁻¹ (λ stop. PaidWithin stop (rowAt (start found .args .rows .now) (place found) .stop) (rowAt (start found .args .rows .now) (place found))) (stop-at (c .before .before))
     (refund-fits (found-at found) (code-at (c .before) ∙ c .if2 .left)))
 
 add-refunded : tie.Need-add-refunded
