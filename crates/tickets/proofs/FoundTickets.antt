@@ -10,19 +10,22 @@ use borrow.Author.Tests.{ltb-true, not-false}
 use Rattle.sale.specs.Checks.{firstMet}
 use Rattle.house.specs.Tickets.{Ticket, isLive}
 use Rattle.house.specs.Commands.{blankTicket, ticketAt, changed, stillLive, lookupRows}
-use Rattle.house.specs.View.{ticketIn, ticketsOf, placeOf, without, view}
+use Rattle.house.specs.Balance.{Reached}
+use Rattle.house.specs.View.{marksAt, ticketFrom, ticketsOf, placeOf, without, view}
 use Rattle.tickets.specs.Steps.{replaced}
+use Rattle.tickets.specs.declared.lookup.Lookup.{Lookup}
 use Rattle.house.specs.declared.state.House.{House}
+use Rattle.house.specs.declared.rows.Row.{Row}
 use Rattle.house.proofs.Ledger.{All}
 use Rattle.house.proofs.Refusals.{row-passed, all-passed}
 use Rattle.house.proofs.RowLaws.{place-ticket}
 use Rattle.house.proofs.RisingNumbers.{all-at, changed-stays, changed-closes}
-use Rattle.house.proofs.ReachedHouses.{Sure}
-use Rattle.house.proofs.ViewLaws.{live-count, view-few, view-live, view-has, view-ticket}
+use Rattle.house.proofs.ReachedHouses.{Sure, reached-sure}
+use Rattle.house.proofs.ViewLaws.{live-count, view-few, view-live, view-has}
 
 -- ---- two tables one below the other
 
-pub first-met-above : (rows more : List (Bool × ℕ)) → (firstMet rows ≡ 0 → ⊥) → firstMet (rows ++ more) ≡ firstMet rows
+first-met-above : (rows more : List (Bool × ℕ)) → (firstMet rows ≡ 0 → ⊥) → firstMet (rows ++ more) ≡ firstMet rows
 unfolding firstMet
 first-met-above [] more some = absurd (some refl)
 first-met-above (row ∷ rows) more some = go (row .0) some (first-met-above rows more)
@@ -48,13 +51,32 @@ first-met-below (row ∷ rows) more numbered none =
 
 -- ---- the ticket
 
--- a ticket's number that passed the table's first rows, and its place
-pub record FoundTicket (h : House) (words marks : List ℕ) (n p : ℕ) : Type 0 where
+-- a row with the marks of a place
+abbrev pub ticketWith : Row → List ℕ → ℕ → Ticket
+ticketWith w marks p = ticketFrom w (marksAt marks p)
+
+-- a ticket's number that passed the table's first rows, its place and its row
+pub record FoundTicket (h : House) (words marks : List ℕ) (n p : ℕ) (w : Row) : Type 0 where
   pub sure : Sure (view h words marks)
   pub passed : firstMet (lookupRows n (view h words marks)) ≡ 0
   pub placed : p ≡ placeOf n (view h words marks .live)
+  pub ticket : ticketWith w marks p ≡ ticketAt n (view h words marks .live)
 
-module _ {h : House} {words marks : List ℕ} {n p : ℕ} (found : FoundTicket h words marks n p) where
+-- what a look-up answers: the refusal is the command's, or the ticket is found
+module _ (h : House) (words marks : List ℕ) (n : ℕ) (l : Lookup) (code : l .code ≡ firstMet (lookupRows n (view h words marks))) where
+  pub look-up-refused : (l .code ≡ 0 → ⊥) → (more : List (Bool × ℕ)) → firstMet (lookupRows n (view h words marks) ++ more) ≡ l .code
+  look-up-refused some more = first-met-above (lookupRows n (view h words marks)) more (λ none. some (code ∙ none)) ∙ sym code
+
+  pub look-up-found :
+      Reached (view h words marks)
+      → l .code ≡ 0
+      → (l .code ≡ 0 → l .place ≡ placeOf n (view h words marks .live))
+      → (l .code ≡ 0 → ticketWith (l .row) marks (l .place) ≡ ticketAt n (view h words marks .live))
+      → FoundTicket h words marks n (l .place) (l .row)
+  look-up-found reached none place row =
+      record { sure = reached-sure _ reached; passed = sym code ∙ none; placed = place none; ticket = row none }
+
+module _ {h : House} {words marks : List ℕ} {n p : ℕ} {w : Row} (found : FoundTicket h words marks n p w) where
   pub found-few : h .live ≤ 200
   found-few = view-few h words marks (found .sure)
 
@@ -69,14 +91,14 @@ module _ {h : House} {words marks : List ℕ} {n p : ℕ} (found : FoundTicket h
   pub found-within : p < h .live
   found-within = subst⁻¹ (λ i. i < h .live) (found .placed) placed-within
 
-  pub found-ticket : ticketAt n (view h words marks .live) ≡ ticketIn words marks p
-  found-ticket = view-ticket h words marks n placed-within ∙ ap (ticketIn words marks) (sym (found .placed))
+  pub found-ticket : ticketAt n (view h words marks .live) ≡ ticketWith w marks p
+  found-ticket = sym (found .ticket)
 
   among : placeOf n (view h words marks .live) < length (view h words marks .live)
   among = omega (arith, live-count h words marks, placed-within)
 
   -- what holds of every live ticket holds of it
-  pub found-holds : (P : Ticket → Type 0) → All P (view h words marks .live) → P (ticketIn words marks p)
+  pub found-holds : (P : Ticket → Type 0) → All P (view h words marks .live) → P (ticketWith w marks p)
   found-holds P all =
       subst P (sym (place-ticket n (view h words marks .live)) ∙ found-ticket)
       (all-at P (view h words marks .live) all (placeOf n (view h words marks .live)) blankTicket among)
@@ -85,9 +107,9 @@ module _ {h : House} {words marks : List ℕ} {n p : ℕ} (found : FoundTicket h
   module _ (f : Ticket → Ticket) where
     change-by :
         (live : Bool)
-        → isLive (h .game) (f (ticketIn words marks p)) ≡ live
+        → isLive (h .game) (f (ticketWith w marks p)) ≡ live
         → stillLive (h .game) (changed n f (view h words marks .live))
-        ≡ cond live (set (view h words marks .live) p (f (ticketIn words marks p))) (without p (view h words marks .live))
+        ≡ cond live (set (view h words marks .live) p (f (ticketWith w marks p))) (without p (view h words marks .live))
     unfolding view
     change-by true stays =
         changed-stays (h .game) n f (view h words marks .live) (found .sure .alive) (found .sure .rising) among
@@ -103,10 +125,10 @@ module _ {h : House} {words marks : List ℕ} {n p : ℕ} (found : FoundTicket h
         (after : House) (words′ marks′ : List ℕ)
         → after .live ≤ h .live
         → take (after .live) (ticketsOf words′ marks′)
-        ≡ replaced (h .game) p (f (ticketIn words marks p)) (take (h .live) (ticketsOf words marks))
+        ≡ replaced (h .game) p (f (ticketWith w marks p)) (take (h .live) (ticketsOf words marks))
         → view after words′ marks′ .live ≡ stillLive (h .game) (changed n f (view h words marks .live))
     found-changed after words′ marks′ fewer made =
         view-live after words′ marks′ (omega (arith, found-few))
         ∙ made
-        ∙ ap (replaced (h .game) p (f (ticketIn words marks p))) (sym (view-live h words marks found-few))
-        ∙ sym (change-by (isLive (h .game) (f (ticketIn words marks p))) refl)
+        ∙ ap (replaced (h .game) p (f (ticketWith w marks p))) (sym (view-live h words marks found-few))
+        ∙ sym (change-by (isLive (h .game) (f (ticketWith w marks p))) refl)

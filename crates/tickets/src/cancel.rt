@@ -5,7 +5,6 @@ use house::answer::accepted;
 use house::answer::refused;
 use house::rows::Row;
 use house::rows::change_ticket;
-use house::rows::read_row;
 use house::rows::remove_ticket;
 use house::state::House;
 use house::ticket::finished_on;
@@ -86,7 +85,7 @@ pub fn cancel_ticket(
         return refused(house, found.code);
     }
     let place = found.place;
-    let row = read_row(rows, place);
+    let row = found.row;
     let stop = max_u64(row.first, house.first_game());
     let code = cancel_code(house, row, stop);
     if code != 0 {

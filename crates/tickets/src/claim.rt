@@ -4,7 +4,6 @@ use house::answer::Outcome;
 use house::answer::accepted;
 use house::answer::refused;
 use house::rows::Row;
-use house::rows::read_row;
 use house::rows::remove_ticket;
 use house::state::House;
 use house::ticket::is_finished;
@@ -46,7 +45,7 @@ pub fn claim_ticket(
         return refused(house, found.code);
     }
     let place = found.place;
-    let row = read_row(rows, place);
+    let row = found.row;
     let code = claim_code(house.game, row);
     if code != 0 {
         return refused(house, code);
