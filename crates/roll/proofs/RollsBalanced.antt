@@ -1,6 +1,6 @@
 -- Demand 3 over rolls, proved: `rolls-balance`. Reading a roll is running the commands that it answers, each on the house that the last one
 -- left, and the records in the book read back as their answers; so rolls one after another are one list, over which the till balances.
-use Prim.Native.Nat.{ℕ, zero, suc, _+_, _≤_, _<_}
+use Prim.Native.Nat.{ℕ, zero, suc, _+_, _<_}
 use native.Mathlib.Omega.{arith}
 use mathlib.Core.Path.{_≡_, refl, sym, ap, ap₂, subst, _∙_}
 use mathlib.Core.Bool.{Bool, true, false, cond}
