@@ -16,8 +16,9 @@ use Rattle.house.proofs.Ledger.{All}
 use Rattle.commands.specs.Meant.{meant}
 use Rattle.commands.specs.declared.command.Command.{Command}
 use Rattle.roll.specs.Decode.{CommandRow, commandRows, CommandByte, unknown, known, rowAmong, commandRow, saleIn, commandOf}
-use Rattle.roll.specs.Orders.{operandsBy, operandBytes, decodedBy, lentMarks, decodedAt}
+use Rattle.roll.specs.Orders.{operandsBy, operandsFor, operandBytes, decodedBy, lentMarks, decodedAt}
 use Rattle.roll.specs.declared.decode.Decoded.the-variants.{Whole, Stop}
+use Rattle.roll.specs.declared.decode.Operands.the-variants.{Bytes, Unknown}
 
 -- ---- the table of commands
 
@@ -38,6 +39,15 @@ other-row byte none =
       ne-eqb byte 6 (none .0 .1),
       ne-eqb byte 7 (none .1),
     )
+
+-- what the code is told of a byte's operands
+pub operands-told : (looked : CommandByte) (size : ℕ) → operandsFor looked ≡ Bytes size → operandsBy looked ≡ size
+operands-told unknown size e = let z : _≡_ {A = ℕ} 0 1 = cc in absurd (omega arith)
+operands-told (known row) size e = cc
+
+pub unknown-told : (looked : CommandByte) → operandsFor looked ≡ Unknown → looked ≡ unknown
+unknown-told unknown e = refl
+unknown-told (known row) e = let z : _≡_ {A = ℕ} 0 1 = cc in absurd (omega arith)
 
 -- the row that is found for a byte has that byte, and what holds of each row
 found : (P : CommandRow → Type 0) (rows : List CommandRow) → All P rows → (byte : ℕ) (row : CommandRow) → rowAmong rows byte ≡ known row → (row .byte ≡ byte) × P row
@@ -98,6 +108,11 @@ module _ (l : List ℕ) (at : ℕ) (within : at < length l) where
 
   left-over : length (drop (suc at) l) ≡ length l - (at + 1)
   left-over = length-drop (suc at) l ∙ ap (λ n. length l - n) (sym (add-one at))
+
+  pub unknown-there : commandRow byte ≡ unknown → decodedAt (drop at l) ≡ Stop 1
+  unfolding decodedAt
+  unknown-there none =
+      rw (drop-cons l at 0 within, none, le-ltb (length (drop (suc at) l)) 0 (omega arith))
 
   pub short-there : length l - (at + 1) < operandBytes byte → decodedAt (drop at l) ≡ Stop 2
   unfolding decodedAt

@@ -7,7 +7,7 @@ ghost use mathlib.Core.Path.{_≡_};
 ghost use Prim.Native.Nat.{_+_, _≤_};
 ghost use lib.ListN.{length, take, drop};
 ghost use Rattle.roll.specs.Decode.{saleIn, commandRow};
-ghost use Rattle.roll.specs.Orders.{operandBytes, decodedBy, decodedAt};
+ghost use Rattle.roll.specs.Orders.{operandsFor, operandBytes, decodedBy, decodedAt};
 
 // A whole command with its length, its command byte included; or the stop code where there is none. Sell's marks stay in the roll.
 pub enum Decoded {
@@ -30,19 +30,24 @@ fn sale_at(roll: &[u8], at: usize) -> Sale
     }
 }
 
-// How many operand bytes follow a command byte: none behind an unknown one.
-fn operand_bytes(byte: u8) -> usize
-    ensures { λ r. ⌜ r ≡ operandBytes byte ⌝ }
+// How many operand bytes follow a command byte, or that the byte is unknown.
+enum Operands {
+    Bytes(usize),
+    Unknown,
+}
+
+fn operand_bytes(byte: u8) -> Operands
+    ensures { λ r. ⌜ r ≡ operandsFor (commandRow byte) ⌝ }
 {
     match byte {
-        1 => 2,
-        2 => 88,
-        3 => 4,
-        4 => 1,
-        5 => 4,
-        6 => 0,
-        7 => 5,
-        _ => 0,
+        1 => Operands::Bytes(2),
+        2 => Operands::Bytes(88),
+        3 => Operands::Bytes(4),
+        4 => Operands::Bytes(1),
+        5 => Operands::Bytes(4),
+        6 => Operands::Bytes(0),
+        7 => Operands::Bytes(5),
+        _ => Operands::Unknown,
     }
 }
 
@@ -71,7 +76,9 @@ pub(crate) fn decode(roll: &[u8], at: usize) -> Decoded
         return Decoded::Stop(0);
     }
     let byte = roll[at];
-    let size = operand_bytes(byte);
+    let Operands::Bytes(size) = operand_bytes(byte) else {
+        return Decoded::Stop(1);
+    };
     let from = at + 1;
     if roll.len() - from < size {
         return Decoded::Stop(2);
