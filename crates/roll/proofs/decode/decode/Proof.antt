@@ -1,8 +1,8 @@
 -- `roll::decode::decode` meets its contract: each return is a case of the definition, told by the tests that led there.
-use Prim.Native.Nat.{ℕ, _+_, _-_, _≤_, _<_}
+use Prim.Native.Nat.{_+_}
 use native.Mathlib.Omega.{arith}
-use mathlib.Core.Path.{_≡_, sym, ap, subst, _∙_}
-use lib.ListN.{length, getD, drop, drop-of-length-le}
+use mathlib.Core.Path.{_≡_, sym, ap, _∙_}
+use lib.ListN.{getD, drop, drop-of-length-le}
 use borrow.Author.Needs.{needs}
 use Rattle.roll.specs.Decode.{commandRow}
 use Rattle.roll.specs.Orders.{operandBytes, decodedBy, decodedAt}
