@@ -11,7 +11,7 @@ use Rattle.sale.specs.Checks.{firstMet}
 use Rattle.house.specs.Tickets.{Ticket, isLive}
 use Rattle.house.specs.Commands.{blankTicket, ticketAt, changed, stillLive, lookupRows}
 use Rattle.house.specs.Balance.{Reached}
-use Rattle.house.specs.View.{marksAt, ticketFrom, ticketsOf, placeOf, without, view}
+use Rattle.house.specs.View.{marksAt, ticketFrom, ticketIn, ticketsOf, placeOf, without, view}
 use Rattle.tickets.specs.Steps.{replaced}
 use Rattle.tickets.specs.declared.lookup.Lookup.{Lookup}
 use Rattle.house.specs.declared.state.House.{House}
@@ -21,7 +21,7 @@ use Rattle.house.proofs.Refusals.{row-passed, all-passed}
 use Rattle.house.proofs.RowLaws.{place-ticket}
 use Rattle.house.proofs.RisingNumbers.{all-at, changed-stays, changed-closes}
 use Rattle.house.proofs.ReachedHouses.{Sure, reached-sure}
-use Rattle.house.proofs.ViewLaws.{live-count, view-few, view-live, view-has}
+use Rattle.house.proofs.ViewLaws.{live-count, view-few, view-live, view-has, view-ticket}
 
 -- ---- two tables one below the other
 
@@ -55,6 +55,15 @@ first-met-below (row ∷ rows) more numbered none =
 abbrev pub ticketWith : Row → List ℕ → ℕ → Ticket
 ticketWith w marks p = ticketFrom w (marksAt marks p)
 
+-- a number that passes the table's first rows is a live ticket's
+module _ (h : House) (words marks : List ℕ) (n : ℕ) (passed : firstMet (lookupRows n (view h words marks)) ≡ 0) where
+  place-within : placeOf n (view h words marks .live) < h .live
+  place-within =
+      ltb-true _ _ (sym (view-has h words marks n) ∙ not-false _ (all-passed (lookupRows n (view h words marks)) (omega arith) passed .1 .1 .0))
+
+  pub placed-ticket : (p : ℕ) → p ≡ placeOf n (view h words marks .live) → ticketIn words marks p ≡ ticketAt n (view h words marks .live)
+  placed-ticket p placed = ap (ticketIn words marks) placed ∙ sym (view-ticket h words marks n place-within)
+
 -- a ticket's number that passed the table's first rows, its place and its row
 pub record FoundTicket (h : House) (words marks : List ℕ) (n p : ℕ) (w : Row) : Type 0 where
   pub sure : Sure (view h words marks)
@@ -84,18 +93,14 @@ module _ {h : House} {words marks : List ℕ} {n p : ℕ} {w : Row} (found : Fou
   pub found-rest : (more : List (Bool × ℕ)) → firstMet (lookupRows n (view h words marks) ++ more) ≡ firstMet more
   found-rest more = first-met-below (lookupRows n (view h words marks)) more (omega arith) (found .passed)
 
-  placed-within : placeOf n (view h words marks .live) < h .live
-  placed-within =
-      ltb-true _ _ (sym (view-has h words marks n) ∙ not-false _ (all-passed (lookupRows n (view h words marks)) (omega arith) (found .passed) .1 .1 .0))
-
   pub found-within : p < h .live
-  found-within = subst⁻¹ (λ i. i < h .live) (found .placed) placed-within
+  found-within = subst⁻¹ (λ i. i < h .live) (found .placed) (place-within h words marks n (found .passed))
 
   pub found-ticket : ticketAt n (view h words marks .live) ≡ ticketWith w marks p
   found-ticket = sym (found .ticket)
 
   among : placeOf n (view h words marks .live) < length (view h words marks .live)
-  among = omega (arith, live-count h words marks, placed-within)
+  among = omega (arith, live-count h words marks, place-within h words marks n (found .passed))
 
   -- what holds of every live ticket holds of it
   pub found-holds : (P : Ticket → Type 0) → All P (view h words marks .live) → P (ticketWith w marks p)
