@@ -66,7 +66,8 @@ fn close_ticket(
     if is_same(row, game, cents) {
         return left + 1;
     }
-    change_ticket(rows, left, paid);
+    let moved = read_row(rows, left);
+    change_ticket(rows, left, paid_row(moved, day, game, cents));
     left + 1
 }
 
@@ -98,7 +99,7 @@ fn close_tickets(
 
 // The house once the game is over, whatever it awards: one award at the place of each live ticket. Pools and counters are not touched.
 pub(crate) fn end_game(
-    mut house: House,
+    house: House,
     rows: &mut [u64; 3200],
     marks: &mut [u8; 16000],
     awards: &[u64; 200],
@@ -110,8 +111,19 @@ pub(crate) fn end_game(
 {
     let left = close_tickets(house, rows, marks, awards);
     let next = house.game + 1;
-    house.game = next;
-    house.drawn = 0;
-    house.live = left as u64;
-    house
+    let balls = house.balls;
+    let six = house.six;
+    let eight = house.eight;
+    let counters = house.counters;
+    House {
+        day: house.day,
+        game: next,
+        balls,
+        drawn: 0,
+        issued: house.issued,
+        live: left as u64,
+        six,
+        eight,
+        counters,
+    }
 }

@@ -2,6 +2,7 @@
 use crate::game_end::end_game;
 use house::answer::Outcome;
 use house::answer::accepted;
+use house::state::Counters;
 use house::state::House;
 use prizes::draw::Draw;
 use settlement::settle::Settlement;
@@ -14,23 +15,36 @@ ghost use Rattle.house.specs.Parts.{Carried};
 ghost use Rattle.draw.specs.Closing.{houseSettled, RoomyCounters, Draws, LastDraw};
 
 // The house with the pools and the counters of a settled game.
-fn with_settlement(mut house: House, settlement: Settlement) -> House
+fn with_settlement(house: House, settlement: Settlement) -> House
     requires { ⌜ RoomyCounters (houseSettled house settlement .counters) ⌝ }
     ensures { λ r. ⌜ r ≡ houseSettled house settlement ⌝ }
 {
+    let balls = house.balls;
     let six = settlement.six;
     let eight = settlement.eight;
     let six_after = six.after;
     let eight_after = eight.after;
-    let seeds = house.counters.seeds + (six.seed + eight.seed);
-    let gained = house.counters.gained + settlement.stakes + (six.repaid + eight.repaid);
-    let lost = house.counters.lost + (six.contributions + eight.contributions) + settlement.prizes;
-    house.six = six_after;
-    house.eight = eight_after;
-    house.counters.seeds = seeds;
-    house.counters.gained = gained;
-    house.counters.lost = lost;
-    house
+    House {
+        day: house.day,
+        game: house.game,
+        balls,
+        drawn: house.drawn,
+        issued: house.issued,
+        live: house.live,
+        six: six_after,
+        eight: eight_after,
+        counters: Counters {
+            taken: house.counters.taken,
+            seeds: house.counters.seeds + (six.seed + eight.seed),
+            paid: house.counters.paid,
+            refunded: house.counters.refunded,
+            unclaimed: house.counters.unclaimed,
+            gained: house.counters.gained + settlement.stakes + (six.repaid + eight.repaid),
+            lost: house.counters.lost
+                + (six.contributions + eight.contributions)
+                + settlement.prizes,
+        },
+    }
 }
 
 // Settles the current game by the draw that its twentieth ball completes.

@@ -70,6 +70,15 @@ pub fn read_row(rows: &[u64; 3200], i: usize) -> Row
     }
 }
 
+// The finishing day of the ticket at a place, and 0 before it.
+pub fn finishing_day(rows: &[u64; 3200], i: usize) -> u64
+    requires { ⌜ IsRow i ⌝ }
+    ensures { λ r. ⌜ r ≡ rowAt (now (rows .entry)) i .finished ⌝ }
+{
+    let at = i * 16;
+    rows[at + 13]
+}
+
 // Fifteen words from a place on.
 fn put_words(rows: &mut [u64; 3200], at: usize, words: &[u64])
     requires { ⌜ (at ≤ 3185) × (length (now words) ≡ 15) ⌝ }

@@ -1,5 +1,7 @@
 // Questions about one ticket, asked of its row: its games, its dues, its days and its stakes. None of them reads a mark.
 use crate::rows::Row;
+use crate::rows::finishing_day;
+use crate::rows::read_row;
 use prizes::expiry::has_expired;
 ghost use mathlib.Core.Path.{_≡_};
 ghost use mathlib.Core.Bool.{cond, not};
@@ -8,7 +10,7 @@ ghost use Prim.Native.Nat.{ℕ, _+_, max};
 ghost use Rattle.house.specs.Tickets.{runsIn, isFinished, isLive, paidStakes, heldFor, kenoToGoBegun};
 ghost use Rattle.house.specs.Model.{Model};
 ghost use Rattle.house.specs.Commands.{finishedOn, isExpired};
-ghost use Rattle.house.specs.View.{ticketFrom, Affordable, PaidWithin};
+ghost use Rattle.house.specs.View.{ticketFrom, ticketIn, IsRow, Affordable, PaidWithin};
 
 // Whether the ticket runs in a game.
 pub fn runs_in(game: u64, row: Row) -> bool
@@ -40,14 +42,15 @@ pub fn is_closed(game: u64, row: Row) -> bool
     is_finished(game, row)
 }
 
-// Whether the ticket has expired. The day is tested first, since few tickets pass that test.
-pub fn is_expired(game: u64, day: u64, row: Row) -> bool
-    ensures { λ r. ⌜ ((m : Model) (marks : List ℕ) → m .game ≡ game → m .day ≡ day → r ≡ isExpired m (ticketFrom row marks)) ⌝ }
+// Whether the ticket at a place has expired. Its finishing day is read and tested first, since few tickets pass that test.
+pub fn is_expired(rows: &[u64; 3200], i: usize, game: u64, day: u64) -> bool
+    requires { ⌜ IsRow i ⌝ }
+    ensures { λ r. ⌜ ((m : Model) (marks : List ℕ) → m .game ≡ game → m .day ≡ day → r ≡ isExpired m (ticketIn (now (rows .entry)) marks i)) ⌝ }
 {
-    if !has_expired(day, row.finished) {
+    if !has_expired(day, finishing_day(rows, i)) {
         return false;
     }
-    is_finished(game, row)
+    is_finished(game, read_row(rows, i))
 }
 
 // Whether the ticket is one of 50 games or more and has begun.

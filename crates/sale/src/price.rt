@@ -49,7 +49,7 @@ pub fn stake_fits(kind: Kind, count: u32, stake: u32) -> bool
     }
 }
 
-// The stakes of so many paid games: a charge, or a refund.
+// The stakes of so many paid games.
 pub fn charge_of(stake: u32, count: u32, paid: u8) -> u64
     requires { ⌜ Counted count ⌝ }
     ensures { λ r. ⌜ r ≡ charge stake count paid ⌝ }

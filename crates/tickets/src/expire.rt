@@ -33,8 +33,8 @@ fn drop_expired(house: House, rows: &mut [u64; 3200], marks: &mut [u8; 16000]) -
     let mut cents: u64 = 0;
     let mut i: usize = 0;
     while i < live {
-        let row = read_row(rows, i);
-        if is_expired(game, day, row) {
+        if is_expired(rows, i, game, day) {
+            let row = read_row(rows, i);
             cents = cents + row.due;
             i += 1;
             continue;

@@ -120,24 +120,40 @@ returns-2 c =
       ),
     )
 
+read-row-requires-2 : tie.Need-read-row-requires-2
+read-row-requires-2 c κs = search needs
+
+paid-row-requires-2 : tie.Need-paid-row-requires-2
+paid-row-requires-2 c κs =
+    let moved = c .before .before .before .before .before in
+    omega (
+      arith,
+      begun moved .pre,
+      ap (λ (r : Row). r .due) (c .before .read-row2 .ensures),
+      ap (λ (t : Ticket). t .due) (here moved),
+    )
+
 change-ticket-requires : tie.Need-change-ticket-requires
-change-ticket-requires c κs = search needs
+change-ticket-requires c κs = record { within = omega (arith, begun (c .before .before .before .before .before .before) .pre) }
 
 add-result-2 : tie.Need-add-result-2
-add-result-2 c = omega (arith, begun (c .before .before .before .before) .pre)
+add-result-2 c = omega (arith, begun (c .before .before .before .before .before .before .before) .pre)
 
 returns-3 : tie.Need-returns-3
 returns-3 c =
-    let moved = c .before .before .before .before in
+    let moved = c .before .before .before .before .before .before .before in
     let s = begun moved in
     let args = s .args in
     let marks = moved .move-ticket .last .1 .0 in
-    let row = paying moved .paid-row .result in
+    let own = marksAt marks (args .left) in
     let stored =
     c .change-ticket .ensures marks
-    ∙ ap (λ (ts : List Ticket). set ts (args .left) (ticketFrom row (marksAt marks (args .left)))) (moved .move-ticket .ensures)
+    ∙ ap (λ (ts : List Ticket). set ts (args .left) (ticketFrom (c .before .paid-row2 .result) own)) (moved .move-ticket .ensures)
     ∙ set-set (tickets s) (args .left) _ _
-    ∙ ap (set (tickets s) (args .left)) (ap (λ (t : Ticket). ticketFrom row (t .operands .marks)) (here moved) ∙ paid-here (paying moved)) in (
+    ∙ ap (set (tickets s) (args .left))
+    (c .before .paid-row2 .ensures own
+    ∙ ap (λ (r : Row). paidTicket (args .day) (args .game) (args .cents) (ticketFrom r own)) (c .before .before .before .read-row2 .ensures)
+    ∙ ap (paidTicket (args .day) (args .game) (args .cents)) (here moved)) in (
       omega arith,
       (
         ap (take (args .left + 1)) stored ∙ stays moved,
@@ -157,6 +173,8 @@ close-ticket-spec =
     is-same-requires
     add-result
     returns-2
+    read-row-requires-2
+    paid-row-requires-2
     change-ticket-requires
     add-result-2
     returns-3)

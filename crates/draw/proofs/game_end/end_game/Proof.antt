@@ -22,8 +22,9 @@ add-next c = search needs
 returns : tie.Need-returns
 unfolding view below
 returns c = λ figures held.
-    let closed = c .before .close-tickets in
-    let start = c .before .before .before .before in
+    let ended = c .before .before .before .before .before in
+    let closed = ended .close-tickets in
+    let start = ended .before .before .before in
     let house = start .args .house in
     let after : House = record { day = house .day; game = house .game + 1; balls = house .balls; drawn = 0; issued = house .issued; live = closed .result; six = house .six; eight = house .eight; counters = house .counters } in
     let rows = closed .last .1 .0 in

@@ -4,43 +4,33 @@ use borrow.Author.Needs.{needs}
 use Rattle.draw.proofs.settle.with_settlement.Statement.{statement}
 use Rattle.draw.proofs.settle.with_settlement.Tie as tie
 
-add-seeds : tie.Need-add-seeds
-add-seeds c = search needs
+add-t8 : tie.Need-add-t8
+add-t8 c = search needs
 
-add-seeds-2 : tie.Need-add-seeds-2
-add-seeds-2 c = search needs
+add-t9 : tie.Need-add-t9
+add-t9 c = search needs
 
-add-gained : tie.Need-add-gained
-add-gained c = search needs
+add-t10 : tie.Need-add-t10
+add-t10 c = search needs
 
-add-gained-2 : tie.Need-add-gained-2
-add-gained-2 c = omega (arith, c .before .before .before .before .before .before .before .before .before .before .before .pre)
+add-t11 : tie.Need-add-t11
+add-t11 c = omega (arith, c .before .before .before .before .before .before .before .before .before .before .before .before .pre)
 
-add-gained-3 : tie.Need-add-gained-3
-add-gained-3 c = omega (arith, c .before .before .before .before .before .before .before .before .before .before .before .pre)
+add-t12 : tie.Need-add-t12
+add-t12 c = omega (arith, c .before .before .before .before .before .before .before .before .before .before .before .before .pre)
 
-add-lost : tie.Need-add-lost
-add-lost c = omega (arith, c .before .before .before .before .before .before .before .before .before .before .before .before .before .pre)
+add-t13 : tie.Need-add-t13
+add-t13 c = omega (arith, c .before .before .before .before .before .before .before .before .before .before .before .before .before .before .pre)
 
-add-lost-2 : tie.Need-add-lost-2
-add-lost-2 c = omega (arith, c .before .before .before .before .before .before .before .before .before .before .before .before .before .before .pre)
+add-t14 : tie.Need-add-t14
+add-t14 c = omega (arith, c .before .before .before .before .before .before .before .before .before .before .before .before .before .before .before .pre)
 
-add-lost-3 : tie.Need-add-lost-3
-add-lost-3 c = omega (arith, c .before .before .before .before .before .before .before .before .before .before .before .before .before .before .before .pre)
+add-t15 : tie.Need-add-t15
+add-t15 c = omega (arith, c .before .before .before .before .before .before .before .before .before .before .before .before .before .before .before .before .pre)
 
 returns : tie.Need-returns
 returns c = search needs
 
 pub with-settlement-spec : {M : Type 1} → statement M
 with-settlement-spec =
-    tie.close
-    (tie.spec
-    add-seeds
-    add-seeds-2
-    add-gained
-    add-gained-2
-    add-gained-3
-    add-lost
-    add-lost-2
-    add-lost-3
-    returns)
+    tie.close (tie.spec add-t8 add-t9 add-t10 add-t11 add-t12 add-t13 add-t14 add-t15 returns)

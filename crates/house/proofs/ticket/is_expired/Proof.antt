@@ -1,5 +1,5 @@
 -- `house::ticket::is_expired` meets its contract: by its finishing day the ticket has not expired, or just where it is finished.
-use mathlib.Core.Path.{_≡_, refl, sym, _∙_}
+use mathlib.Core.Path.{_≡_, refl, sym, ap, _∙_}
 use mathlib.Core.Bool.{Bool, true, false, _&&_}
 use borrow.Author.Needs.{needs}
 use borrow.Author.Tests.{not-true, not-false}
@@ -7,7 +7,8 @@ use Rattle.prizes.specs.Expiry.{hasExpired}
 use Rattle.house.specs.Tickets.{Ticket, isFinished}
 use Rattle.house.specs.Model.{Model}
 use Rattle.house.specs.Commands.{isExpired}
-use Rattle.house.specs.View.{ticketFrom}
+use Rattle.house.specs.View.{marksAt, ticketFrom, ticketIn}
+use Rattle.house.specs.declared.rows.Row.{Row}
 use Rattle.house.proofs.ticket.is_expired.Statement.{statement}
 use Rattle.house.proofs.ticket.is_expired.Tie as tie
 
@@ -29,23 +30,35 @@ late m t e = rw e (go (isFinished (m .game) t))
     go true = refl
     go false = refl
 
+finishing-day-requires : tie.Need-finishing-day-requires
+finishing-day-requires c κs = search needs
+
 has-expired-requires : tie.Need-has-expired-requires
 has-expired-requires c κs = search needs
 
 returns : tie.Need-returns
 returns c = λ m marks game day.
-    let asked = c .before .has-expired in
-    in-time m (ticketFrom (c .before .before .args .row) marks) (rw day (sym (asked .ensures) ∙ not-true (asked .result) (c .if1 .taken)))
+    let asked = c .before in
+    let args = asked .before .before .args in
+    in-time m (ticketIn (args .rows .now) marks (args .i))
+    (rw day (ap (hasExpired (args .day)) (sym (asked .before .finishing-day .ensures)) ∙ sym (asked .has-expired .ensures) ∙ not-true (asked .has-expired .result) (c .if1 .taken)))
+
+read-row-requires : tie.Need-read-row-requires
+read-row-requires c κs = search needs
 
 is-finished-requires : tie.Need-is-finished-requires
 is-finished-requires c κs = search needs
 
 returns-2 : tie.Need-returns-2
 returns-2 c = λ m marks game day.
-    let left = c .before in
-    let asked = left .before .has-expired in
-    rw game (c .is-finished .ensures marks)
-    ∙ late m (ticketFrom (left .before .before .args .row) marks) (rw day (sym (asked .ensures) ∙ not-false (asked .result) (left .if1 .left)))
+    let read = c .before in
+    let left = read .before in
+    let asked = left .before in
+    let args = asked .before .before .args in
+    let own = marksAt marks (args .i) in
+    rw game (c .is-finished .ensures own ∙ ap (λ (w : Row). isFinished (args .game) (ticketFrom w own)) (read .read-row .ensures))
+    ∙ late m (ticketIn (args .rows .now) marks (args .i))
+    (rw day (ap (hasExpired (args .day)) (sym (asked .before .finishing-day .ensures)) ∙ sym (asked .has-expired .ensures) ∙ not-false (asked .has-expired .result) (left .if1 .left)))
 
 pub is-expired-spec : {M : Type 1} → statement M
-is-expired-spec = tie.close (tie.spec has-expired-requires returns is-finished-requires returns-2)
+is-expired-spec = tie.close (tie.spec finishing-day-requires has-expired-requires returns read-row-requires is-finished-requires returns-2)

@@ -8,7 +8,7 @@ use borrow.Author.Needs.{needs}
 use Rattle.sale.specs.Lists.{sum}
 use Rattle.house.specs.Tickets.{Ticket}
 use Rattle.house.specs.Commands.{blankTicket, isExpired}
-use Rattle.house.specs.View.{marksAt, ticketFrom, ticketIn, ticketsOf}
+use Rattle.house.specs.View.{ticketIn, ticketsOf}
 use Rattle.house.specs.declared.rows.Row.{Row}
 use Rattle.house.proofs.RowLaws.{tickets-length, tickets-at}
 use Rattle.house.proofs.ViewLaws.{view-live}
@@ -46,44 +46,43 @@ module _ (c : tie.In-loop Inv-loop μ-loop) where
       sym (tickets-at (turn .rows) (turn .marks) (turn .i) (omega (arith, c .loop-test .taken, start .pre .0)))
       ∙ next-same (isExpired (onDay (start .args .house .game) (start .args .house .day))) (entry start) (ticketsOf (turn .rows) (turn .marks)) (turn .i) (turn .left) (turn .cents) (turn .inv .1) inside
 
--- the row that was read is its row
-row-read : (c : tie.After-read-row Inv-loop μ-loop) →
-    let turn = c .before .before .before .loop in
-    ticketFrom (c .read-row .result) (marksAt (turn .marks) (turn .i)) ≡ getD (entry (c .before .before .before .before)) (turn .i) blankTicket
-row-read c =
-    let turn = c .before .before .before .loop in
-    ap (λ (w : Row). ticketFrom w (marksAt (turn .marks) (turn .i))) (c .read-row .ensures) ∙ as-it-was (c .before .before)
-
 tested : (c : tie.After-is-expired Inv-loop μ-loop) →
-    let here = c .before .before .before in
+    let here = c .before .before in
     let args = here .before .before .args in
     c .is-expired .result ≡ isExpired (onDay (args .house .game) (args .house .day)) (getD (entry (here .before .before)) (here .before .loop .i) blankTicket)
 tested c =
-    let here = c .before .before .before in
+    let here = c .before .before in
     let turn = here .before .loop in
     let args = here .before .before .args in
     let m = onDay (args .house .game) (args .house .day) in
-    c .is-expired .ensures m (marksAt (turn .marks) (turn .i)) refl refl ∙ ap (isExpired m) (row-read (c .before))
+    c .is-expired .ensures m (turn .marks) refl refl ∙ ap (isExpired m) (as-it-was here)
+
+-- the row that is read is its row
+due-read : (c : tie.After-read-row Inv-loop μ-loop) →
+    let here = c .before .before .before .before .before in
+    c .read-row .result .due ≡ getD (entry (here .before .before)) (here .before .loop .i) blankTicket .due
+due-read c = ap (λ (w : Row). w .due) (c .read-row .ensures) ∙ ap (λ (t : Ticket). t .due) (as-it-was (c .before .before .before .before .before))
 
 loop-holds : tie.Need-loop-holds Inv-loop μ-loop
 loop-holds c = (omega arith, passed-none (isExpired (onDay (c .args .house .game) (c .args .house .day))) (ticketsOf (c .args .rows .now) (c .args .marks .now)))
 
-read-row-requires : tie.Need-read-row-requires Inv-loop μ-loop
-read-row-requires c κs = search needs
-
 is-expired-requires : tie.Need-is-expired-requires Inv-loop μ-loop
 is-expired-requires c κs = search needs
 
+read-row-requires : tie.Need-read-row-requires Inv-loop μ-loop
+read-row-requires c κs = search needs
+
 add-cents : tie.Need-add-cents Inv-loop μ-loop
 add-cents c =
-    let tests = c .before .before in
-    let here = tests .before .before .before in
+    let read = c .before in
+    let tests = read .before .before .before in
+    let here = tests .before .before in
     let turn = here .before .loop in
     let start = here .before .before in
     omega (
       arith,
-      ap (λ t. t .due) (row-read (tests .before)),
-      passed-fits (isExpired (onDay (start .args .house .game) (start .args .house .day))) (entry start) (ticketsOf (turn .rows) (turn .marks)) (turn .i) (turn .left) (turn .cents) (turn .inv .1) (inside here) (start .args .house .live) (sym (tested tests) ∙ c .before .if1 .taken) (here .loop-test .taken),
+      due-read read,
+      passed-fits (isExpired (onDay (start .args .house .game) (start .args .house .day))) (entry start) (ticketsOf (turn .rows) (turn .marks)) (turn .i) (turn .left) (turn .cents) (turn .inv .1) (inside here) (start .args .house .live) (sym (tested tests) ∙ read .before .before .if1 .taken) (here .loop-test .taken),
       within start,
     )
 
@@ -95,15 +94,16 @@ loop-less c = search needs
 
 loop-again : tie.Need-loop-again Inv-loop μ-loop
 loop-again c =
-    let tests = c .before .before in
-    let here = tests .before .before .before in
+    let read = c .before in
+    let tests = read .before .before .before in
+    let here = tests .before .before in
     let turn = here .before .loop in
     let start = here .before .before in
     let f = isExpired (onDay (start .args .house .game) (start .args .house .day)) in
     let now = ticketsOf (turn .rows) (turn .marks) in (
       omega (arith, here .loop-test .taken),
-      subst⁻¹ (λ due. Passed f (entry start) now (turn .i + 1) (turn .left) (turn .cents + due)) (ap (λ t. t .due) (row-read (tests .before)))
-          (passed-gone f (entry start) now (turn .i) (turn .left) (turn .cents) (turn .inv .1) (inside here) (sym (tested tests) ∙ c .before .if1 .taken)),
+      subst⁻¹ (λ due. Passed f (entry start) now (turn .i + 1) (turn .left) (turn .cents + due)) (due-read read)
+          (passed-gone f (entry start) now (turn .i) (turn .left) (turn .cents) (turn .inv .1) (inside here) (sym (tested tests) ∙ read .before .before .if1 .taken)),
     )
 
 move-ticket-requires : tie.Need-move-ticket-requires Inv-loop μ-loop
@@ -121,7 +121,7 @@ loop-less-2 c = search needs
 loop-again-2 : tie.Need-loop-again-2 Inv-loop μ-loop
 loop-again-2 c =
     let tests = c .before .before .before .before in
-    let here = tests .before .before .before in
+    let here = tests .before .before in
     let turn = here .before .loop in
     let start = here .before .before in
     let f = isExpired (onDay (start .args .house .game) (start .args .house .day)) in
@@ -149,8 +149,8 @@ drop-expired-spec =
     Inv-loop
     μ-loop
     loop-holds
-    read-row-requires
     is-expired-requires
+    read-row-requires
     add-cents
     add-i
     loop-less
