@@ -4,12 +4,15 @@ use native.Mathlib.Omega.{arith}
 use mathlib.Core.Path.{_≡_, refl, ap, _∙_}
 use mathlib.Core.List.{List, [], _∷_, _++_}
 use lib.ListN.{take, drop, set, length}
-use lib.Seq.{drop-drop}
 use Rattle.numbers.specs.Bytes.{bytesOf}
-use Rattle.numbers.proofs.ByteLaws.{number-of-bytes, written-after}
+use Rattle.numbers.proofs.ByteLaws.{number-of-bytes}
 use Rattle.house.specs.declared.answer.Answer.{Answer}
 use Rattle.roll.specs.Decode.{recordOf}
 use Rattle.roll.specs.Balance.{entryFrom}
+
+-- so many bytes of a number stored from a place on
+abbrev put : ℕ → ℕ → ℕ → List ℕ → List ℕ
+put at width n l = take at l ++ bytesOf width n ++ drop (at + width) l
 
 -- an answer and its command's byte are read back from their record, whatever stands after it
 pub entry-back :
@@ -27,26 +30,26 @@ pub record-passed : (byte : ℕ) (a : Answer) (rest : List ℕ) → drop 14 (rec
 unfolding recordOf bytesOf
 record-passed byte a rest = refl
 
--- the first two places of a list set
-front-set : (l : List ℕ) (a b : ℕ) → 2 ≤ length l → set (set l 0 a) 1 b ≡ (a ∷ b ∷ []) ++ drop 2 l
-front-set [] a b within = absurd (omega arith)
-front-set (x ∷ []) a b within = absurd (omega arith)
-front-set (x ∷ y ∷ l) a b within = refl
+-- the two numbers that are stored in their places, and then the first two bytes
+stored :
+    (l : List ℕ) (byte code number cents : ℕ)
+    → 14 ≤ length l
+    → set (set (put 2 4 number (put 6 8 cents l)) 0 byte) 1 code
+    ≡ recordOf byte (record { code = code; number = number; cents = cents }) ++ drop 14 l
+unfolding recordOf bytesOf
+stored [] byte code number cents within = absurd (omega arith)
+stored (a ∷ []) byte code number cents within = absurd (omega arith)
+stored (a ∷ b ∷ []) byte code number cents within = absurd (omega arith)
+stored (a ∷ b ∷ c ∷ []) byte code number cents within = absurd (omega arith)
+stored (a ∷ b ∷ c ∷ d ∷ []) byte code number cents within = absurd (omega arith)
+stored (a ∷ b ∷ c ∷ d ∷ e ∷ []) byte code number cents within = absurd (omega arith)
+stored (a ∷ b ∷ c ∷ d ∷ e ∷ f ∷ l) byte code number cents within = refl
 
--- the two numbers that are stored behind the first two bytes of a record
 pub record-written :
     (l : List ℕ) (byte code number cents : ℕ) (l₁ l₂ : List ℕ)
     → 14 ≤ length l
-    → l₁ ≡ take 2 (set (set l 0 byte) 1 code) ++ bytesOf 4 number ++ drop (2 + 4) (set (set l 0 byte) 1 code)
-    → l₂ ≡ take 6 l₁ ++ bytesOf 8 cents ++ drop (6 + 8) l₁
-    → l₂ ≡ recordOf byte (record { code = code; number = number; cents = cents }) ++ drop 14 l
-unfolding recordOf bytesOf
+    → l₁ ≡ put 6 8 cents l
+    → l₂ ≡ put 2 4 number l₁
+    → set (set l₂ 0 byte) 1 code ≡ recordOf byte (record { code = code; number = number; cents = cents }) ++ drop 14 l
 record-written l byte code number cents l₁ l₂ within first second =
-    let front = byte ∷ code ∷ [] in
-    let four = bytesOf 4 number in
-    let one : l₁ ≡ (front ++ four) ++ drop 4 (drop 2 l) =
-    first ∙ ap (λ x. take 2 x ++ four ++ drop (2 + 4) x) (front-set l byte code (omega arith)) ∙ written-after 4 front (drop 2 l) four 2 refl in
-    second
-    ∙ ap (λ x. take 6 x ++ bytesOf 8 cents ++ drop (6 + 8) x) one
-    ∙ written-after 8 (front ++ four) (drop 4 (drop 2 l)) (bytesOf 8 cents) 6 refl
-    ∙ ap (λ x. ((front ++ four) ++ bytesOf 8 cents) ++ x) (ap (drop 8) (drop-drop 4 2 l) ∙ drop-drop 8 6 l)
+    ap (λ x. set (set x 0 byte) 1 code) (second ∙ ap (put 2 4 number) first) ∙ stored l byte code number cents within

@@ -7,13 +7,14 @@ ghost use Prim.Native.Nat.{_≤_};
 ghost use lib.ListN.{length, drop};
 ghost use Rattle.roll.specs.Decode.{recordOf};
 
-// An answer's record at the start of a part of the book.
+// An answer's record at the start of a part of the book. It is written from its end, the longer number first: so the back end makes one store of
+// each number's bytes.
 pub(crate) fn write_record(book: &mut [u8], byte: u8, code: u8, number: u32, cents: u64)
     requires { ⌜ 14 ≤ length (now book) ⌝ }
     ensures { λ _. ⌜ now (book .exit) ≡ recordOf byte (record { code = code; number = number; cents = cents }) ++ drop 14 (now (book .entry)) ⌝ }
 {
+    write_u64(book, 6, cents);
+    write_u32(book, 2, number);
     book[0] = byte;
     book[1] = code;
-    write_u32(book, 2, number);
-    write_u64(book, 6, cents);
 }
