@@ -54,13 +54,13 @@ pub record Endable (h : House) (words awards : List ℕ) : Type 0 where
   pub room : (i : ℕ) → i < h .live → rowAt words i .due + getD awards i 0 < 2 ^ 64
 
 -- the draw that an accepted ball completes, its game's twentieth
-pub record Draws (m : Model) (number : ℕ) (draw : Draw) : Type 0 where
+pub record CompletesDraw (m : Model) (number : ℕ) (draw : Draw) : Type 0 where
   pub accepted : codeOf m (ball number) ≡ 0
   pub last : length (m .balls) ≡ 19
   pub draw′ : draw ≡ drawOf (ballsWith number m)
 
 -- the same of a reached house, whichever the ball
-pub record LastDraw (m : Model) (draw : Draw) : Type 0 where
+pub record CompletedDraw (m : Model) (draw : Draw) : Type 0 where
   pub reached : Reached m
   pub number : ℕ
-  pub drawn : Draws m number draw
+  pub drawn : CompletesDraw m number draw

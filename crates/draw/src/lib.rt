@@ -1,4 +1,4 @@
-// The draw: balls, and the settlement of a game over the live tickets.
+// The draw: balls, the twentieth, and the end of a game.
 pub mod ball;
 mod game_end;
 mod settle;

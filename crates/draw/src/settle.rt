@@ -12,7 +12,7 @@ ghost use Prim.Native.Nat.{ℕ};
 ghost use Rattle.house.specs.Commands.{ball};
 ghost use Rattle.house.specs.View.{view};
 ghost use Rattle.house.specs.Parts.{Carried};
-ghost use Rattle.draw.specs.Closing.{houseSettled, RoomyCounters, Draws, LastDraw};
+ghost use Rattle.draw.specs.Closing.{houseSettled, RoomyCounters, CompletesDraw, CompletedDraw};
 
 // The house with the pools and the counters of a settled game.
 fn with_settlement(house: House, settlement: Settlement) -> House
@@ -54,8 +54,8 @@ pub(crate) fn settle_game(
     marks: &mut [u8; 16000],
     draw: Draw,
 ) -> Outcome
-    requires { ⌜ LastDraw (view house (now rows) (now marks)) draw ⌝ }
-    ensures { λ r. ⌜ ((number : ℕ) → Draws (view house (now (rows .entry)) (now (marks .entry))) number draw → Carried house (now (rows .entry)) (now (marks .entry)) (ball number) (r .house) (now (rows .exit)) (now (marks .exit)) (r .answer)) ⌝ }
+    requires { ⌜ CompletedDraw (view house (now rows) (now marks)) draw ⌝ }
+    ensures { λ r. ⌜ ((number : ℕ) → CompletesDraw (view house (now (rows .entry)) (now (marks .entry))) number draw → Carried house (now (rows .entry)) (now (marks .entry)) (ball number) (r .house) (now (rows .exit)) (now (marks .exit)) (r .answer)) ⌝ }
 {
     let mut awards = [0u64; 200];
     let settlement = settle(house, rows, marks, draw, &mut awards);

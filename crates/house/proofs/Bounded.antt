@@ -18,7 +18,7 @@ use Rattle.prizes.specs.Cut.{majorsLimit, payout}
 use Rattle.prizes.specs.Jackpots.{guaranteeOfSix, guaranteeOfEight}
 use Rattle.prizes.specs.Settle.{Entry}
 use Rattle.sale.specs.Bounds.{Sound, Playable}
-use Rattle.prizes.specs.Bounds.{prizesLimit}
+use Rattle.prizes.specs.Bounds.{ticketPrizesLimit}
 use Rattle.sale.specs.Checks.{Operands, wayCount, chargeOf}
 use Rattle.prizes.specs.declared.jackpot.Jackpot.{Jackpot}
 use Rattle.prizes.specs.declared.draw.Draw.{Draw}
@@ -137,7 +137,7 @@ span-paid-within game from upto t k begun =
 
 -- what one game can lose: the prizes of 200 tickets, and contributions, which come from their paid stakes
 abbrev pub perGame : ℕ
-perGame = liveLimit * prizesLimit + liveLimit * chargeLimit
+perGame = liveLimit * ticketPrizesLimit + liveLimit * chargeLimit
 
 pub record Bounded (m : Model) : Type 0 where
   pub live : length (stillLive (m .game) (m .live)) ≤ liveLimit

@@ -1,4 +1,4 @@
-// The house: its struct, and its live tickets in lent rows.
+// The house: its struct, its live tickets in lent rows, and what is asked of one ticket.
 pub mod answer;
 pub mod rows;
 pub mod state;

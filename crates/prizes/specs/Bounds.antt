@@ -53,5 +53,5 @@ pub record Seeding (j : Jackpot) (guarantee : ℕ) : Type 0 where
   pub limit : guarantee < 2 ^ 63
 
 -- the most that a ticket's prizes of one game are together, jackpot shares aside: so much for each of 255 ways
-abbrev pub prizesLimit : ℕ
-prizesLimit = 255 * majorsLimit
+abbrev pub ticketPrizesLimit : ℕ
+ticketPrizesLimit = 255 * majorsLimit

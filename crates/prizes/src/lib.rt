@@ -1,4 +1,4 @@
-// The rule book of prizes: schedules, prizes, the cut of major prizes and the jackpots.
+// The rule book of prizes: schedules, prizes, the cut of major prizes, the jackpots, and expiry.
 pub mod cut;
 pub mod draw;
 pub mod expiry;

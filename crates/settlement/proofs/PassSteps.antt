@@ -19,7 +19,7 @@ use Rattle.prizes.specs.Cut.{majorsLimit, payout}
 use Rattle.sale.specs.Ways.{sizes, sizeOf, sizeWord}
 use Rattle.prizes.specs.Hits.{hits}
 use Rattle.sale.specs.Bounds.{Playable}
-use Rattle.prizes.specs.Bounds.{prizesLimit}
+use Rattle.prizes.specs.Bounds.{ticketPrizesLimit}
 use Rattle.prizes.specs.Found.{groupSizes, groupHits, wordSizes, GroupsOf, FoundWith}
 use Rattle.prizes.specs.Rounds.{payUnder, Pays, Listed, Raisable}
 use Rattle.prizes.specs.Settle.{prizesBy, fullBy}
@@ -342,7 +342,7 @@ module _ (pss : List (List ℕ)) (sure ends majors : List ℕ) (c : Cut) (k : Cu
         ∙ sym (paid-raised all (getD pss i []) own-least)
 
     -- no ticket is paid more than the limit for each way
-    pub paid-small : paidTo i ≤ prizesLimit
+    pub paid-small : paidTo i ≤ ticketPrizesLimit
     paid-small =
         le-trans (sum-within (payout all) majorsLimit (getD pss i []) each) (mul-le-mul-right majorsLimit (k .ways i))
       where

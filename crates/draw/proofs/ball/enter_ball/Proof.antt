@@ -6,7 +6,7 @@ use Rattle.house.specs.Commands.{ball, codeOf, ballsWith}
 use Rattle.house.specs.View.{view}
 use Rattle.house.proofs.ReachedHouses.{Sure, reached-sure}
 use Rattle.house.proofs.ViewLaws.{carried-refused, balls-count}
-use Rattle.draw.specs.Closing.{Draws}
+use Rattle.draw.specs.Closing.{CompletesDraw}
 use Rattle.draw.proofs.BallLaws.{whole-draw}
 use Rattle.draw.proofs.ball.enter_ball.Statement.{statement}
 use Rattle.draw.proofs.ball.enter_ball.Tie as tie
@@ -46,7 +46,7 @@ of-requires c κs = search needs
 -- the ball completes the draw
 last-ball : (c : tie.After-of) →
     let args = c .before .before .before .before .before .before .before .before .args in
-    Draws (view (args .house) (args .rows .now) (args .marks .now)) (args .number) (c .of .result)
+    CompletesDraw (view (args .house) (args .rows .now) (args .marks .now)) (args .number) (c .of .result)
 last-ball c =
     let args = c .before .before .before .before .before .before .before .before .args in
     let accepted = c .before .before .before .before .before in

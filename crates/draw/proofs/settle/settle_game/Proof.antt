@@ -16,7 +16,7 @@ use Rattle.settlement.specs.Settling.{SettledAs}
 use Rattle.settlement.proofs.GameLaws.{awards-fit}
 use Rattle.house.proofs.ReachedHouses.{Sure, reached-sure}
 use Rattle.house.proofs.ViewLaws.{carried-done, live-count}
-use Rattle.draw.specs.Closing.{Draws}
+use Rattle.draw.specs.Closing.{CompletesDraw}
 use Rattle.draw.proofs.BallLaws.{last-act, each-live, lastDraw, Fitting, fitting, settled-reply, settled-view}
 use Rattle.draw.proofs.settle.settle_game.Statement.{statement}
 use Rattle.draw.proofs.settle.settle_game.Tie as tie
@@ -49,7 +49,7 @@ abbrev awards : tie.After-settle → List ℕ
 awards c = c .settle .last .1 .1 .1 .1 .0
 
 -- by any ball that completes the draw
-settled-by : (c : tie.After-settle) (b : ℕ) → Draws (model (startOf c)) b (startOf c .args .draw)
+settled-by : (c : tie.After-settle) (b : ℕ) → CompletesDraw (model (startOf c)) b (startOf c .args .draw)
     → SettledAs (model (startOf c)) (lastDraw (model (startOf c)) b) (awards c) (c .settle .result)
 settled-by c b d = subst (λ (w : Draw). SettledAs (model (startOf c)) w (awards c) (c .settle .result)) (d .draw′) (c .settle .ensures)
 
@@ -85,7 +85,7 @@ abbrev foundBefore : tie.After-end-game → tie.After-settle
 foundBefore c = c .before .before .before .before .before .before .before .before .before
 
 -- the house that the awards leave
-ended : (c : tie.After-end-game) (b : ℕ) → Draws (model (startOf (foundBefore c))) b (startOf (foundBefore c) .args .draw)
+ended : (c : tie.After-end-game) (b : ℕ) → CompletesDraw (model (startOf (foundBefore c))) b (startOf (foundBefore c) .args .draw)
     → view (c .end-game .result) (c .end-game .last .1 .0) (c .end-game .last .1 .1 .0)
     ≡ gameEnded (settlement b (model (startOf (foundBefore c))) .awards) (model (startOf (foundBefore c)))
 unfolding settlement view
