@@ -2,11 +2,11 @@
 use crate::rows::Row;
 use crate::rows::finishing_day;
 use crate::rows::read_row;
-use prizes::expiry::has_expired;
 ghost use mathlib.Core.Path.{_≡_};
 ghost use mathlib.Core.Bool.{cond, not};
 ghost use mathlib.Core.List.{List};
 ghost use Prim.Native.Nat.{ℕ, _+_, max};
+ghost use Rattle.prizes.specs.Bounds.{ExpiryBound};
 ghost use Rattle.house.specs.Tickets.{runsIn, isFinished, isLive, paidStakes, heldFor, kenoToGoBegun};
 ghost use Rattle.house.specs.Model.{Model};
 ghost use Rattle.house.specs.Commands.{finishedOn, isExpired};
@@ -42,12 +42,12 @@ pub fn is_closed(game: u64, row: Row) -> bool
     is_finished(game, row)
 }
 
-// Whether the ticket at a place has expired. Its finishing day is read and tested first, since few tickets pass that test.
-pub fn is_expired(rows: &[u64; 3200], i: usize, game: u64, day: u64) -> bool
+// Whether the ticket at a place has expired, by the day's bound. Its finishing day is read and tested first, since few tickets pass that test.
+pub fn is_expired(rows: &[u64; 3200], i: usize, game: u64, bound: u64) -> bool
     requires { ⌜ IsRow i ⌝ }
-    ensures { λ r. ⌜ ((m : Model) (marks : List ℕ) → m .game ≡ game → m .day ≡ day → r ≡ isExpired m (ticketIn (now (rows .entry)) marks i)) ⌝ }
+    ensures { λ r. ⌜ ((m : Model) (marks : List ℕ) → m .game ≡ game → ExpiryBound (m .day) bound → r ≡ isExpired m (ticketIn (now (rows .entry)) marks i)) ⌝ }
 {
-    if !has_expired(day, finishing_day(rows, i)) {
+    if bound <= finishing_day(rows, i) {
         return false;
     }
     is_finished(game, read_row(rows, i))

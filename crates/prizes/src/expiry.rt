@@ -1,16 +1,16 @@
 // When a finished ticket expires.
-ghost use mathlib.Core.Path.{_≡_};
-ghost use Rattle.prizes.specs.Expiry.{hasExpired};
+ghost use Rattle.prizes.specs.Bounds.{ExpiryBound};
 
 // A ticket expires when more than so many days have passed since its finishing day.
 pub const CLAIM_DAYS: u64 = 365;
 
-// Whether they have passed: the finishing day + 365 is less than today. No day is added to, so none is too large.
-pub fn has_expired(today: u64, finished: u64) -> bool
-    ensures { λ r. ⌜ r ≡ hasExpired today finished ⌝ }
+// The day before which a ticket finished if it has expired today: worked out once, it serves for every ticket. No day is added to, so none is
+// too large.
+pub fn expiry_bound(today: u64) -> u64
+    ensures { λ r. ⌜ ExpiryBound today r ⌝ }
 {
     if today < CLAIM_DAYS {
-        return false;
+        return 0;
     }
-    finished < today - CLAIM_DAYS
+    today - CLAIM_DAYS
 }

@@ -6,6 +6,7 @@ use house::rows::move_ticket;
 use house::rows::read_row;
 use house::state::House;
 use house::ticket::is_expired;
+use prizes::expiry::expiry_bound;
 ghost use mathlib.Core.List.{map};
 ghost use Prim.Native.Nat.{_^_, _≤_, _<_};
 ghost use Rattle.sale.specs.Lists.{sum};
@@ -28,12 +29,13 @@ fn drop_expired(house: House, rows: &mut [u64; 3200], marks: &mut [u8; 16000]) -
 {
     let game = house.game;
     let day = house.day;
+    let bound = expiry_bound(day);
     let live = house.live as usize;
     let mut left: usize = 0;
     let mut cents: u64 = 0;
     let mut i: usize = 0;
     while i < live {
-        if is_expired(rows, i, game, day) {
+        if is_expired(rows, i, game, bound) {
             let row = read_row(rows, i);
             cents = cents + row.due;
             i += 1;

@@ -1,8 +1,9 @@
 -- `house::ticket::is_expired` meets its contract: by its finishing day the ticket has not expired, or just where it is finished.
-use mathlib.Core.Path.{_≡_, refl, sym, ap, _∙_}
+use native.Mathlib.Omega.{arith}
+use mathlib.Core.Path.{_≡_, refl, ap, _∙_}
 use mathlib.Core.Bool.{Bool, true, false, _&&_}
 use borrow.Author.Needs.{needs}
-use borrow.Author.Tests.{not-true, not-false}
+use borrow.Author.Tests.{lt-ltb, le-ltb}
 use Rattle.prizes.specs.Expiry.{hasExpired}
 use Rattle.house.specs.Tickets.{Ticket, isFinished}
 use Rattle.house.specs.Model.{Model}
@@ -33,15 +34,12 @@ late m t e = rw e (go (isFinished (m .game) t))
 finishing-day-requires : tie.Need-finishing-day-requires
 finishing-day-requires c κs = search needs
 
-has-expired-requires : tie.Need-has-expired-requires
-has-expired-requires c κs = search needs
-
 returns : tie.Need-returns
-returns c = λ m marks game day.
-    let asked = c .before in
-    let args = asked .before .before .args in
-    in-time m (ticketIn (args .rows .now) marks (args .i))
-    (rw day (ap (hasExpired (args .day)) (sym (asked .before .finishing-day .ensures)) ∙ sym (asked .has-expired .ensures) ∙ not-true (asked .has-expired .result) (c .if1 .taken)))
+returns c = λ m marks game bounded.
+    let read = c .before in
+    let args = read .before .args in
+    let t = ticketIn (args .rows .now) marks (args .i) in
+    in-time m t (bounded .before (t .finishedDay) ∙ le-ltb (t .finishedDay) (args .bound) (omega (arith, read .finishing-day .ensures, c .if1 .taken)))
 
 read-row-requires : tie.Need-read-row-requires
 read-row-requires c κs = search needs
@@ -50,15 +48,15 @@ is-finished-requires : tie.Need-is-finished-requires
 is-finished-requires c κs = search needs
 
 returns-2 : tie.Need-returns-2
-returns-2 c = λ m marks game day.
+returns-2 c = λ m marks game bounded.
     let read = c .before in
     let left = read .before in
-    let asked = left .before in
-    let args = asked .before .before .args in
+    let day = left .before in
+    let args = day .before .args in
     let own = marksAt marks (args .i) in
+    let t = ticketIn (args .rows .now) marks (args .i) in
     rw game (c .is-finished .ensures own ∙ ap (λ (w : Row). isFinished (args .game) (ticketFrom w own)) (read .read-row .ensures))
-    ∙ late m (ticketIn (args .rows .now) marks (args .i))
-    (rw day (ap (hasExpired (args .day)) (sym (asked .before .finishing-day .ensures)) ∙ sym (asked .has-expired .ensures) ∙ not-false (asked .has-expired .result) (left .if1 .left)))
+    ∙ late m t (bounded .before (t .finishedDay) ∙ lt-ltb (t .finishedDay) (args .bound) (omega (arith, day .finishing-day .ensures, left .if1 .left)))
 
 pub is-expired-spec : {M : Type 1} → statement M
-is-expired-spec = tie.close (tie.spec finishing-day-requires has-expired-requires returns read-row-requires is-finished-requires returns-2)
+is-expired-spec = tie.close (tie.spec finishing-day-requires returns read-row-requires is-finished-requires returns-2)

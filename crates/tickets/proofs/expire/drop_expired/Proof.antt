@@ -17,11 +17,11 @@ use Rattle.tickets.proofs.expire.drop_expired.Statement.{statement}
 use Rattle.tickets.proofs.expire.drop_expired.Tie as tie
 
 abbrev Inv-loop : tie.InvT-loop
-Inv-loop rows₀ marks₀ game day live left₀ cents₀ i₀ rows marks left cents i =
+Inv-loop rows₀ marks₀ game day bound live left₀ cents₀ i₀ rows marks left cents i =
     (i ≤ live) × Passed (isExpired (onDay game day)) (ticketsOf rows₀ marks₀) (ticketsOf rows marks) i left cents
 
 abbrev μ-loop : tie.MeasureT-loop
-μ-loop rows₀ marks₀ game day live left₀ cents₀ i₀ rows marks left cents i = live - i
+μ-loop rows₀ marks₀ game day bound live left₀ cents₀ i₀ rows marks left cents i = live - i
 
 -- the tickets at entry, and what their dues come to
 abbrev entry : tie.Start Inv-loop μ-loop → List Ticket
@@ -34,37 +34,42 @@ within start =
 
 -- the ticket of a turn is as it was, and the test is of it
 module _ (c : tie.In-loop Inv-loop μ-loop) where
-  inside : c .before .loop .i < length (entry (c .before .before))
+  inside : c .before .loop .i < length (entry (c .before .before .before))
   inside =
-      let start = c .before .before in
+      let start = c .before .before .before in
       omega (arith, c .loop-test .taken, start .pre .0, tickets-length (start .args .rows .now) (start .args .marks .now))
 
-  as-it-was : ticketIn (c .before .loop .rows) (c .before .loop .marks) (c .before .loop .i) ≡ getD (entry (c .before .before)) (c .before .loop .i) blankTicket
+  as-it-was : ticketIn (c .before .loop .rows) (c .before .loop .marks) (c .before .loop .i) ≡ getD (entry (c .before .before .before)) (c .before .loop .i) blankTicket
   as-it-was =
       let turn = c .before .loop in
-      let start = c .before .before in
+      let start = c .before .before .before in
       sym (tickets-at (turn .rows) (turn .marks) (turn .i) (omega (arith, c .loop-test .taken, start .pre .0)))
       ∙ next-same (isExpired (onDay (start .args .house .game) (start .args .house .day))) (entry start) (ticketsOf (turn .rows) (turn .marks)) (turn .i) (turn .left) (turn .cents) (turn .inv .1) inside
 
 tested : (c : tie.After-is-expired Inv-loop μ-loop) →
     let here = c .before .before in
-    let args = here .before .before .args in
-    c .is-expired .result ≡ isExpired (onDay (args .house .game) (args .house .day)) (getD (entry (here .before .before)) (here .before .loop .i) blankTicket)
+    let args = here .before .before .before .args in
+    c .is-expired .result ≡ isExpired (onDay (args .house .game) (args .house .day)) (getD (entry (here .before .before .before)) (here .before .loop .i) blankTicket)
 tested c =
     let here = c .before .before in
     let turn = here .before .loop in
-    let args = here .before .before .args in
+    let args = here .before .before .before .args in
     let m = onDay (args .house .game) (args .house .day) in
-    c .is-expired .ensures m (turn .marks) refl refl ∙ ap (isExpired m) (as-it-was here)
+    c .is-expired .ensures m (turn .marks) refl (here .before .before .expiry-bound .ensures) ∙ ap (isExpired m) (as-it-was here)
 
 -- the row that is read is its row
 due-read : (c : tie.After-read-row Inv-loop μ-loop) →
     let here = c .before .before .before .before .before in
-    c .read-row .result .due ≡ getD (entry (here .before .before)) (here .before .loop .i) blankTicket .due
+    c .read-row .result .due ≡ getD (entry (here .before .before .before)) (here .before .loop .i) blankTicket .due
 due-read c = ap (λ (w : Row). w .due) (c .read-row .ensures) ∙ ap (λ (t : Ticket). t .due) (as-it-was (c .before .before .before .before .before))
 
 loop-holds : tie.Need-loop-holds Inv-loop μ-loop
-loop-holds c = (omega arith, passed-none (isExpired (onDay (c .args .house .game) (c .args .house .day))) (ticketsOf (c .args .rows .now) (c .args .marks .now)))
+loop-holds c =
+    let args = c .before .args in
+    (omega arith, passed-none (isExpired (onDay (args .house .game) (args .house .day))) (ticketsOf (args .rows .now) (args .marks .now)))
+
+expiry-bound-requires : tie.Need-expiry-bound-requires Inv-loop μ-loop
+expiry-bound-requires c κs = search needs
 
 is-expired-requires : tie.Need-is-expired-requires Inv-loop μ-loop
 is-expired-requires c κs = search needs
@@ -78,7 +83,7 @@ add-cents c =
     let tests = read .before .before .before in
     let here = tests .before .before in
     let turn = here .before .loop in
-    let start = here .before .before in
+    let start = here .before .before .before in
     omega (
       arith,
       due-read read,
@@ -98,7 +103,7 @@ loop-again c =
     let tests = read .before .before .before in
     let here = tests .before .before in
     let turn = here .before .loop in
-    let start = here .before .before in
+    let start = here .before .before .before in
     let f = isExpired (onDay (start .args .house .game) (start .args .house .day)) in
     let now = ticketsOf (turn .rows) (turn .marks) in (
       omega (arith, here .loop-test .taken),
@@ -123,7 +128,7 @@ loop-again-2 c =
     let tests = c .before .before .before .before in
     let here = tests .before .before in
     let turn = here .before .loop in
-    let start = here .before .before in
+    let start = here .before .before .before in
     let f = isExpired (onDay (start .args .house .game) (start .args .house .day)) in
     let now = ticketsOf (turn .rows) (turn .marks) in (
       omega (arith, here .loop-test .taken),
@@ -135,7 +140,7 @@ loop-again-2 c =
 returns : tie.Need-returns Inv-loop μ-loop
 returns c =
     let turn = c .before .loop in
-    let start = c .before .before in
+    let start = c .before .before .before in
     let args = start .args in
     let f = isExpired (onDay (args .house .game) (args .house .day)) in
     let done : turn .i ≡ args .house .live = omega (arith, turn .inv .0, c .loop-test .left) in
@@ -148,6 +153,7 @@ drop-expired-spec =
     (tie.spec
     Inv-loop
     μ-loop
+    expiry-bound-requires
     loop-holds
     is-expired-requires
     read-row-requires
