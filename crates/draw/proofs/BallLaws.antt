@@ -4,7 +4,7 @@ use Prim.Native.Nat.{ℕ, zero, suc, _+_, _<_, _^_}
 use mathlib.Core.Path.{_≡_, refl, sym, ap, ap₂, _∙_, subst}
 use mathlib.Core.Bool.{true, false}
 use mathlib.Core.Logic.{⊎-elim}
-use mathlib.Core.List.{List, [], _∷_, _++_, map}
+use mathlib.Core.List.{List, [], _∷_, _++_, map, map-append}
 use native.Mathlib.Nat.{not-suc-le-zero, le-of-suc-le-suc, eq-or-lt-of-le}
 use native.Mathlib.Omega.{arith}
 use lib.Dec.{eqb}
@@ -24,7 +24,6 @@ use Rattle.house.specs.View.{ticketIn, view}
 use Rattle.house.specs.declared.state.House.{House}
 use Rattle.house.proofs.Ledger.{All}
 use Rattle.house.proofs.Refusals.{or-false}
-use Rattle.house.proofs.ListLaws.{map-append}
 use Rattle.house.proofs.MoneyLaws.{sum-unmoved}
 use Rattle.house.proofs.RowLists.{length-table, getD-table}
 use Rattle.house.proofs.RisingNumbers.{all-at}

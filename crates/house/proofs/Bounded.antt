@@ -7,7 +7,7 @@ use mathlib.Core.Path.{_≡_, refl, ap, subst, subst⁻¹}
 use mathlib.Core.Bool.{Bool, true, false, cond, _||_, false≢true}
 use mathlib.Core.List.{List, [], _∷_, map, List·Memᴰ, List·Memᴰ·head, List·Memᴰ·tail}
 use lib.Dec.{eqb}
-use lib.ListN.{length, length-append, length-map}
+use lib.ListN.{length, length-map}
 use borrow.Author.Tests.{eqb-true}
 use Rattle.prizes.specs.Hits.{drawOf}
 use Rattle.sale.specs.Lists.{sum, keep, any, member}
@@ -26,13 +26,12 @@ use Rattle.sale.proofs.KeepLaws.{length-keep-le}
 use Rattle.prizes.proofs.CutPayouts.{payout-le}
 use Rattle.prizes.proofs.SettleLaws.{prizes-within, contributions-within, seeds-within, debts-balance, six-guarantee-kept, eight-guarantee-kept}
 use Rattle.house.specs.Tickets.{Ticket, termsOf, runsIn, isLive, paidStakes, entryOf, withDue}
-use Rattle.house.specs.Model.{Model, fresh, ticketLimit, gameLimit, liveLimit}
-use Rattle.house.specs.Commands.{Command, open′, sell, cancel, ball, claim, expire, transfer, act, opened, sold, cancelled, ballsWith, settles, runningIn, settlement, awarded, gameSettled, ballEntered, claimed, expired, withPrimary, transferred, changed, stillLive, soldTicket, codeOf}
+use Rattle.house.specs.Model.{Model, fresh, ticketLimit, gameLimit, liveLimit, withMoney, withTransferred}
+use Rattle.house.specs.Commands.{ballsWith, runningIn, settlement, awarded, finishedOn, gameSettled, stillLive, withPrimary, transferred}
 use Rattle.house.specs.Till.{Figures, tillOf}
 use Rattle.house.specs.Balance.{Balanced}
-use Rattle.house.proofs.Ledger.{All, Kept, Orderly, withLive, houseOf, ticketsAfter, ledgerAfter}
-use Rattle.house.proofs.Refusals.{sell-accepted, ball-accepted}
-use Rattle.house.proofs.CheckedOperands.{playable}
+use Rattle.house.proofs.Ledger.{All, Kept, Orderly, houseOf, endedTickets, settledLedger}
+use Rattle.house.proofs.LiveTickets.{ended-live}
 use Rattle.sale.proofs.WayLaws.{ways-few}
 pub use Rattle.house.proofs.MoneyLaws.{all-kept}
 
@@ -71,7 +70,7 @@ module _ {A : Type 0} where
   each-below-sum f most [] h = tt
   each-below-sum f most (x ∷ xs) h = (omega arith, each-below-sum f most xs (omega arith))
 
-  few-kept : {B : Type 0} (p : B → Bool) (f : A → B) (xs : List A) (most : ℕ) → length xs ≤ most → length (keep p (map f xs)) ≤ most
+  pub few-kept : {B : Type 0} (p : B → Bool) (f : A → B) (xs : List A) (most : ℕ) → length xs ≤ most → length (keep p (map f xs)) ≤ most
   few-kept p f xs most h = omega (arith, length-keep-le p (map f xs), length-map xs f)
 
 pub length-awarded : (game : ℕ) (awards : List ℕ) (ts : List Ticket) → length (awarded game awards ts) ≡ length ts
@@ -154,31 +153,10 @@ pub bounded-fresh : Bounded fresh
 unfolding stillLive keep
 bounded-fresh = omega arith
 
--- the house's tickets after a command
-live-few : (m : Model) (c : Command) → codeOf m c ≡ 0 → length (m .live) ≤ liveLimit → length (act m c .live) ≤ liveLimit
-unfolding act opened sold cancelled gameSettled ballEntered claimed expired transferred stillLive changed
-live-few m (open′ d) e few = few
-live-few m (sell o) e few = omega (arith, sell-accepted m o e .room, length-append (m .live) (soldTicket m o ∷ []))
-live-few m (cancel n) e few = few-kept _ _ (m .live) liveLimit few
-live-few m (ball b) e few = go (settles b m)
-  where
-    go : (last : Bool) → length (cond last (gameSettled b m) (ballEntered b m) .live) ≤ liveLimit
-    go true =
-        few-kept _ _ (awarded (m .game) (settlement b m .awards) (m .live)) liveLimit
-        (omega (arith, length-awarded (m .game) (settlement b m .awards) (m .live)))
-    go false = few
-live-few m (claim n) e few = few-kept _ _ (m .live) liveLimit few
-live-few m expire e few = few-kept _ _ (m .live) liveLimit few
-live-few m (transfer j cents) e few = few
-
 -- the two bounds of an entry of a game
 record EntryBounded (x : Entry) : Type 0 where
   few : length (ways (x .terms .groups) (x .terms .types)) ≤ 255
   paid : x .paid ≤ chargeLimit
-
-abbrev withJackpots : Model → Jackpot → Jackpot → Model
-withJackpots m six eight =
-    record { day = m .day; game = m .game; balls = m .balls; issued = m .issued; live = m .live; six = six; eight = eight; counters = m .counters }
 
 entry-bounded : (game : ℕ) (t : Ticket) → Kept game t → EntryBounded (entryOf game t)
 entry-bounded game t k =
@@ -216,17 +194,24 @@ module _ (m : Model) (ok : Orderly m) (few : length (stillLive (m .game) (m .liv
         sum-within (λ x. x .paid) chargeLimit entries (λ x among. each-bounded x among .paid),
       )
 
-game-bounded :
+-- a game's awards add no ticket
+ended-few : (m : Model) (awards : List ℕ) → length (houseOf m .live) ≤ liveLimit → length (stillLive (m .game + 1) (endedTickets awards m)) ≤ liveLimit
+unfolding stillLive
+ended-few m awards few =
+    subst (λ ts. length ts ≤ liveLimit) (ended-live m awards)
+    (few-kept (isLive (m .game + 1)) (finishedOn (m .day) (m .game + 1)) (awarded (m .game) awards (houseOf m .live)) liveLimit
+    (omega (arith, length-awarded (m .game) awards (houseOf m .live))))
+
+pub game-bounded :
     (m : Model)
     → Orderly m
     → Bounded m
     → (b : ℕ)
     → m .game ≤ gameLimit
-    → (ts : List Ticket)
-    → length (stillLive (m .game + 1) ts) ≤ liveLimit
-    → Bounded (withLive (gameSettled b (houseOf m)) ts)
+    → Bounded (settledLedger b m)
 unfolding gameSettled settlement
-game-bounded m ok bounds b notLast ts few =
+game-bounded m ok bounds b notLast =
+    let few = ended-few m (settlement b (houseOf m) .awards) (bounds .live) in
     let draw : Draw = drawOf (ballsWith b (houseOf m)) in
     let es : List Entry = map (entryOf (m .game)) (runningIn (houseOf m)) in
     let lost = settled-within m ok (bounds .live) b in
@@ -236,48 +221,19 @@ game-bounded m ok bounds b notLast ts few =
     let eight = eight-guarantee-kept draw (m .six) (m .eight) es (bounds .eightGuarantee) in
     omega arith
 
-figures-after :
-    (m : Model) (c : Command)
-    → Orderly m
-    → Bounded m
-    → codeOf (houseOf m) c ≡ 0
-    → length (stillLive (act (houseOf m) c .game) (ticketsAfter m c)) ≤ liveLimit
-    → Bounded (ledgerAfter m c)
-unfolding act opened sold cancelled gameSettled ballEntered claimed expired transferred
-figures-after m (open′ d) ok b e few = omega arith
-figures-after m (sell o) ok b e few =
-    let sale = sell-accepted (houseOf m) o e in
-    omega (arith, sale .numbered, playable o (sale .checked) .charge)
-figures-after m (cancel n) ok b e few = omega arith
-figures-after m (ball n) ok b e few = go (settles n (houseOf m)) (ticketsAfter m (ball n)) few
-  where
-    go :
-        (last : Bool) (ts : List Ticket)
-        → length (stillLive (cond last (gameSettled n (houseOf m)) (ballEntered n (houseOf m)) .game) ts) ≤ liveLimit
-        → Bounded (withLive (cond last (gameSettled n (houseOf m)) (ballEntered n (houseOf m))) ts)
-    go true ts few = game-bounded m ok b n (ball-accepted (houseOf m) n e .game) ts few
-    go false ts few = omega arith
-figures-after m (claim n) ok b e few = omega arith
-figures-after m expire ok b e few = omega arith
-figures-after m (transfer j cents) ok b e few = go (eqb j 6)
+-- a transfer leaves both guarantees
+pub transferred-bounded : (m : Model) (j cents : ℕ) → Bounded m → Bounded (transferred j cents m)
+unfolding transferred
+transferred-bounded m j cents b = go (eqb j 6)
   where
     go :
         (six : Bool)
-        → Bounded (withJackpots (transferred j cents m)
+        → Bounded (withMoney m
         (cond six (withPrimary (m .six) (m .six .primary + cents)) (m .six))
-        (cond six (m .eight) (withPrimary (m .eight) (m .eight .primary + cents))))
+        (cond six (m .eight) (withPrimary (m .eight) (m .eight .primary + cents)))
+        (withTransferred cents (m .counters)))
     go true = omega arith
     go false = omega arith
-
-pub bounded-after :
-    (m : Model) (c : Command)
-    → Orderly m
-    → Bounded m
-    → codeOf (houseOf m) c ≡ 0
-    → act (houseOf m) c .live ≡ stillLive (act (houseOf m) c .game) (ticketsAfter m c)
-    → Bounded (ledgerAfter m c)
-bounded-after m c ok b e live =
-    figures-after m c ok b e (subst (λ ts. length ts ≤ liveLimit) live (live-few (houseOf m) c e (b .live)))
 
 -- ---- 64 bits
 

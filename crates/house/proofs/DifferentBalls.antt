@@ -1,98 +1,37 @@
--- The balls in are different numbers from 1 to 80, in every house that commands reach: a ball is let in only if it is such a number and not yet
--- in. Then each ball is one of the 80 numbers, and no number is counted for two balls: hits are numbers drawn, by induction on the balls.
+-- The balls in are different numbers from 1 to 80, in every house that commands reach: so it is of every ledger. Then each ball is one of the 80 numbers, and no number is counted for two balls: hits are numbers drawn, by induction on the balls.
 use Prim.Native.Nat.{ℕ, zero, suc, _+_, _≤_, _<_}
 use native.Mathlib.Omega.{arith}
-use mathlib.Core.Path.{_≡_, refl, sym, ap, ap₂, subst, _∙_}
+use mathlib.Core.Path.{_≡_, refl, sym, ap, ap₂, subst⁻¹, _∙_}
 use mathlib.Core.Bool.{Bool, true, false, cond, _&&_, _||_}
 use mathlib.Core.Logic.{⊎-elim}
-use mathlib.Core.List.{List, [], _∷_, _++_, map, map-map, map-append}
+use mathlib.Core.List.{List, [], _∷_, map, map-map, map-append}
 use lib.Dec.{leb, eqb}
 use lib.ListN.{length, getD, length-map, length-append}
 use lib.Seq.{ext-getD}
-use borrow.Author.Tests.{le-leb, leb-true, eq-eqb, ne-eqb, eqb-false}
+use borrow.Author.Tests.{leb-true, eq-eqb, ne-eqb}
 use Rattle.sale.specs.Lists.{below, keep, every, any, member}
 use Rattle.sale.specs.Ways.{markOf, sizeOf}
 use Rattle.prizes.specs.Hits.{drawOf, hitsOf}
 use Rattle.sale.proofs.KeepLaws.{keep-append, length-keep-le}
-use Rattle.house.specs.Model.{Model, fresh}
-use Rattle.house.specs.Commands.{Command, open′, sell, cancel, ball, claim, expire, transfer, codeOf, act, step, ballsWith, settles, opened, sold, cancelled, gameSettled, ballEntered, claimed, expired, transferred}
-use Rattle.house.specs.Balance.{State, next, runFrom, Reached}
+use Rattle.house.specs.Model.{Model}
+use Rattle.house.specs.Commands.{ball, codeOf, ballsWith}
+use Rattle.house.specs.Balance.{Reached}
 use Rattle.house.specs.Draws.{Different, DifferentBalls, numbersOf, drawnOf, HitsDrawn}
 use Rattle.house.proofs.Ledger.{All}
-use Rattle.house.proofs.Refusals.{or-false, and-true, ball-accepted}
+use Rattle.house.proofs.Refusals.{and-true}
 use Rattle.house.proofs.MoneyLaws.{all-from, keep-map, keep-keep}
 use Rattle.house.proofs.RowLists.{length-table, getD-table, equal-or-not}
-use Rattle.house.proofs.OneCommand.{refused-unchanged, accepted-done}
+use Rattle.house.proofs.OrderlyLedgers.{ball-differs}
+use Rattle.house.proofs.Theorem.{reached-booked}
 use Rattle.house.proofs.ReachedHouses.{reached-sure}
 
 -- ---- the balls of every reached house
 
--- one number more
-member-more : (n b : ℕ) (ns : List ℕ) → (n ≡ b → ⊥) → member n ns ≡ false → member n (ns ++ (b ∷ [])) ≡ false
-unfolding member any
-member-more n b [] other e = rw (ne-eqb n b other)
-member-more n b (m ∷ ns) other e =
-    let p = or-false (eqb n m) (any (eqb n) ns) e in
-    rw (p .0) (member-more n b ns other (p .1))
-
-different-more : (b : ℕ) (ns : List ℕ) → member b ns ≡ false → Different ns → Different (ns ++ (b ∷ []))
-unfolding member any
-different-more b [] new different = (refl, tt)
-different-more b (n ∷ ns) new (first, rest) =
-    let p = or-false (eqb b n) (any (eqb b) ns) new in
-    (member-more n b ns (λ e. eqb-false b n (p .0) (sym e)) first, different-more b ns (p .1) rest)
-
-numbers-more : (f : ℕ → Bool) (b : ℕ) (ns : List ℕ) → f b ≡ true → every f ns ≡ true → every f (ns ++ (b ∷ [])) ≡ true
-unfolding every
-numbers-more f b [] e all = rw e
-numbers-more f b (n ∷ ns) e all =
-    let p = and-true (f n) (every f ns) all in
-    ap₂ _&&_ (p .0) (numbers-more f b ns e (p .1))
-
--- a ball that is let in
-pub ball-differs : (m : Model) (b : ℕ) → codeOf m (ball b) ≡ 0 → DifferentBalls (m .balls) → DifferentBalls (ballsWith b m)
-ball-differs m b e before =
-    let h = ball-accepted m b e in
-    record {
-      numbers = numbers-more (λ n. leb 1 n && leb n 80) b (m .balls) (ap₂ _&&_ (le-leb 1 b (h .least)) (le-leb b 80 (h .most))) (before .numbers);
-      different = different-more b (m .balls) (h .new) (before .different);
-    }
-
-none-differ : DifferentBalls []
-unfolding every
-none-differ = record { numbers = refl; different = tt }
-
-act-differs : (m : Model) (c : Command) → codeOf m c ≡ 0 → DifferentBalls (m .balls) → DifferentBalls (act m c .balls)
-unfolding act opened sold cancelled gameSettled ballEntered claimed expired transferred
-act-differs m (open′ d) e before = before
-act-differs m (sell o) e before = before
-act-differs m (cancel n) e before = before
-act-differs m (ball b) e before = go (settles b m)
-  where
-    go : (last : Bool) → DifferentBalls (cond last (gameSettled b m) (ballEntered b m) .balls)
-    go true = none-differ
-    go false = ball-differs m b e before
-act-differs m (claim n) e before = before
-act-differs m expire e before = before
-act-differs m (transfer j cents) e before = before
-
-step-differs : (m : Model) (c : Command) → DifferentBalls (m .balls) → DifferentBalls (step m c .house .balls)
-step-differs m c before =
-    ⊎-elim
-    (λ e. subst (λ (h : Model). DifferentBalls (h .balls)) (sym (accepted-done m c e .0)) (act-differs m c e before))
-    (λ e. subst (λ (h : Model). DifferentBalls (h .balls)) (sym (refused-unchanged m c e .0)) before)
-    (equal-or-not (codeOf m c) 0)
-
-run-differs : (cs : List Command) (s : State) → DifferentBalls (s .house .balls) → DifferentBalls (runFrom s cs .house .balls)
-unfolding runFrom next
-run-differs [] s before = before
-run-differs (c ∷ cs) s before = run-differs cs (next s c) (step-differs (s .house) c before)
-
 -- In every reached house the balls in are different numbers from 1 to 80,
 pub balls-differ : (m : Model) → Reached m → DifferentBalls (m .balls)
 balls-differ m r =
-    subst (λ (h : Model). DifferentBalls (h .balls)) (r .comes)
-    (run-differs (r .commands) (record { house = fresh; log = [] }) none-differ)
+    let b = reached-booked m r .1 in
+    subst⁻¹ (λ (h : Model). DifferentBalls (h .balls)) (b .house) (b .orderly .balls .differ)
 
 -- and so are those of a game that its twentieth ball settles.
 pub draw-differs : (m : Model) (b : ℕ) → Reached m → codeOf m (ball b) ≡ 0 → DifferentBalls (ballsWith b m)

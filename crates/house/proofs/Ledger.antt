@@ -3,7 +3,7 @@
 use Prim.Native.Nat.{ℕ, _+_, _≤_, max}
 use mathlib.Core.Path.{_≡_}
 use mathlib.Core.Bool.{cond}
-use mathlib.Core.List.{List, [], _∷_, _++_, map}
+use mathlib.Core.List.{List, [], _∷_, map}
 use lib.ListN.{length}
 use Rattle.sale.specs.Checks.{wayCount}
 use Rattle.sale.specs.Price.{paidGames}
@@ -12,8 +12,9 @@ use Rattle.sale.specs.Kinds.{jackpotBy}
 use Rattle.sale.specs.Bounds.{Playable}
 use Rattle.house.specs.Tickets.{Ticket, termsOf, gamesLeft, withDue, withStop, withFinishedDay}
 use Rattle.house.specs.Model.{Model, gameLimit}
-use Rattle.house.specs.Commands.{Command, open′, sell, cancel, ball, claim, expire, transfer, act, stillLive, changed, cancelledTicket, soldTicket, settles, settlement, awarded, finishedOn, isExpired}
+use Rattle.house.specs.Commands.{stillLive, changed, cancelledTicket, cancelled, settlement, awarded, finishedOn, gameSettled, claimed, isExpired, expired}
 use Rattle.house.specs.Till.{tillOf}
+use Rattle.house.specs.Draws.{DifferentBalls}
 use Rattle.house.specs.Sheet.{Sheet, Line, gamesFrom}
 
 abbrev pub withLive : Model → List Ticket → Model
@@ -24,22 +25,22 @@ withLive m ts =
 abbrev pub houseOf : Model → Model
 houseOf m = withLive m (stillLive (m .game) (m .live))
 
--- the ledger's tickets after an accepted command: as the house's, and none is dropped
-abbrev pub ticketsAfter : Model → Command → List Ticket
-ticketsAfter m (open′ d) = m .live
-ticketsAfter m (sell o) = m .live ++ (soldTicket m o ∷ [])
-ticketsAfter m (cancel n) = changed n (cancelledTicket m) (m .live)
-ticketsAfter m (ball b) =
-    cond (settles b m)
-    (map (finishedOn (m .day) (m .game + 1)) (awarded (m .game) (settlement b (houseOf m) .awards) (m .live)))
-    (m .live)
-ticketsAfter m (claim n) = changed n (λ t. withDue t 0) (m .live)
-ticketsAfter m expire = map (λ t. cond (isExpired m t) (withDue t 0) t) (m .live)
-ticketsAfter m (transfer j cents) = m .live
+-- the ledger's tickets after the current game, by its awards
+abbrev pub endedTickets : List ℕ → Model → List Ticket
+endedTickets awards m = map (finishedOn (m .day) (m .game + 1)) (awarded (m .game) awards (m .live))
 
--- the ledger after an accepted command
-abbrev pub ledgerAfter : Model → Command → Model
-ledgerAfter m c = withLive (act (houseOf m) c) (ticketsAfter m c)
+-- The ledger after a command that may close tickets: as the house, and none is dropped. After the others it is what they make of the ledger.
+abbrev pub cancelledLedger : ℕ → Model → Model
+cancelledLedger n m = withLive (cancelled n (houseOf m)) (changed n (cancelledTicket m) (m .live))
+
+abbrev pub claimedLedger : ℕ → Model → Model
+claimedLedger n m = withLive (claimed n (houseOf m)) (changed n (λ t. withDue t 0) (m .live))
+
+abbrev pub expiredLedger : Model → Model
+expiredLedger m = withLive (expired (houseOf m)) (map (λ t. cond (isExpired m t) (withDue t 0) t) (m .live))
+
+abbrev pub settledLedger : ℕ → Model → Model
+settledLedger b m = withLive (gameSettled b (houseOf m)) (endedTickets (settlement b (houseOf m) .awards) m)
 
 -- a ticket of the ledger as a line of the sheet
 abbrev pub lineOf : ℕ → Ticket → Line
@@ -76,10 +77,15 @@ pub record Kept (game : ℕ) (t : Ticket) : Type 0 where
   pub running : (gamesLeft game t ≡ 0 → ⊥) → t .finishedDay ≡ 0
   pub finished : gamesLeft game t ≡ 0 → t .finishedDay ≡ 0 → ⊥
 
+-- what holds of the balls of a game that is not yet complete
+pub record BallsIn (balls : List ℕ) : Type 0 where
+  pub few : length balls ≤ 19
+  pub differ : DifferentBalls balls
+
 -- what holds of every ledger
 pub record Orderly (m : Model) : Type 0 where
   pub issued : m .issued ≡ length (m .live)
   pub numbers : map (λ t. t .number) (m .live) ≡ gamesFrom 1 (length (m .live))
   pub tickets : All (Kept (m .game)) (m .live)
-  pub balls : length (m .balls) ≤ 19
+  pub balls : BallsIn (m .balls)
   pub games : 1 ≤ m .game

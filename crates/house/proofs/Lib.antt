@@ -17,6 +17,7 @@ pub mod Won
 pub mod Players
 pub mod Bounded
 pub mod OneCommand
+pub mod EachCommand
 pub mod Theorem
 pub mod RowLists
 pub mod RowLaws

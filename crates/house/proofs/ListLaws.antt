@@ -29,18 +29,14 @@ module _ {A : Type 0} where
   All-map P Q f h [] p = tt
   All-map P Q f h (x ∷ xs) p = (h x (p .0), All-map P Q f h xs (p .1))
 
-  pub map-append : {B : Type 0} (f : A → B) (xs ys : List A) → map f (xs ++ ys) ≡ map f xs ++ map f ys
-  map-append f [] ys = refl
-  map-append f (x ∷ xs) ys = ap (_∷_ (f x)) (map-append f xs ys)
-
   pub map-self : (xs : List A) → map (λ x. x) xs ≡ xs
   map-self [] = refl
   map-self (x ∷ xs) = ap (_∷_ x) (map-self xs)
 
   -- a change that some value does not see
-  pub map-same : {B : Type 0} (g : A → B) (f : A → A) → ((x : A) → g (f x) ≡ g x) → (xs : List A) → map g (map f xs) ≡ map g xs
-  map-same g f h [] = refl
-  map-same g f h (x ∷ xs) = rw (h x) (ap (_∷_ (g x)) (map-same g f h xs))
+  pub map-unseen : {B : Type 0} (g : A → B) (f : A → A) → ((x : A) → g (f x) ≡ g x) → (xs : List A) → map g (map f xs) ≡ map g xs
+  map-unseen g f h [] = refl
+  map-unseen g f h (x ∷ xs) = rw (h x) (ap (_∷_ (g x)) (map-unseen g f h xs))
 
   -- what was dropped before a change would be dropped after it
   pub keep-map-keep :
@@ -60,9 +56,10 @@ module _ {A : Type 0} where
       go true e rest = rw rest
       go false e rest = rw (stays x e) rest
 
-  pub keep-keep :
+  -- what is kept of those that include all of it
+  pub keep-within :
       (f g : A → Bool)
       → ((x : A) → f x ≡ false → g x ≡ false)
       → (xs : List A)
       → keep g (keep f xs) ≡ keep g xs
-  keep-keep f g stays xs = rw (map-self (keep f xs), map-self xs) at (keep-map-keep f g (λ x. x) stays xs)
+  keep-within f g stays xs = rw (map-self (keep f xs), map-self xs) at (keep-map-keep f g (λ x. x) stays xs)

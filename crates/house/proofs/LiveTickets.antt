@@ -11,11 +11,10 @@ use Rattle.sale.specs.Lists.{keep}
 use Rattle.sale.specs.Checks.{Operands}
 use Rattle.house.specs.Tickets.{Ticket, runsIn, gamesLeft, isFinished, isLive, withDue, withStop, withFinishedDay}
 use Rattle.house.specs.Model.{Model, nextGame, isDrawing}
-use Rattle.house.specs.Commands.{Command, open′, sell, cancel, ball, claim, expire, transfer, codeOf, act, opened, sold, cancelled, gameSettled, ballEntered, claimed, expired, transferred, changed, stillLive, awarded, settles, settlement, finishedOn, cancelStop, cancelledTicket, soldTicket, isExpired}
-use Rattle.house.proofs.Ledger.{All, houseOf, withLive, ticketsAfter, ledgerAfter, Orderly}
-use Rattle.house.proofs.ListLaws.{cond-either, keep-snoc, keep-keep, keep-map-keep}
-use Rattle.house.proofs.Refusals.{and-true, sell-accepted}
-use Rattle.house.proofs.CheckedOperands.{playable}
+use Rattle.house.specs.Commands.{sold, soldTicket, cancelled, cancelStop, cancelledTicket, settlement, awarded, finishedOn, ticketsAfterGame, gameSettled, claimed, isExpired, expired, changed, stillLive}
+use Rattle.house.proofs.Ledger.{All, houseOf, withLive, endedTickets, cancelledLedger, claimedLedger, expiredLedger, settledLedger}
+use Rattle.house.proofs.ListLaws.{cond-either, keep-snoc, keep-within, keep-map-keep}
+use Rattle.house.proofs.Refusals.{and-true}
 
 -- ---- closed tickets
 
@@ -177,7 +176,7 @@ awarded-live day game awards (t ∷ ts) =
 pub running-live : (game : ℕ) (ts : List Ticket) → keep (runsIn game) (stillLive game ts) ≡ keep (runsIn game) ts
 unfolding stillLive
 running-live game ts =
-    keep-keep (isLive game) (runsIn game) (λ t e. closed-idle game t (closed-of game t e)) ts
+    keep-within (isLive game) (runsIn game) (λ t e. closed-idle game t (closed-of game t e)) ts
 
 pub next-game-least : (m : Model) → m .game ≤ nextGame m
 next-game-least m = cond-either (λ g. m .game ≤ g) (isDrawing m) (omega arith) (omega arith)
@@ -196,35 +195,35 @@ unseen-drops m f stays =
     (λ t e. not-live (m .game) (f t) (stays t (closed-of (m .game) t e)))
     (m .live)
 
-pub live-after :
-    (m : Model) (c : Command)
-    → Orderly m
-    → codeOf (houseOf m) c ≡ 0
-    → act (houseOf m) c .live ≡ stillLive (act (houseOf m) c .game) (ticketsAfter m c)
-unfolding act opened sold cancelled gameSettled ballEntered claimed expired transferred stillLive changed isExpired
-live-after m (open′ d) ok e = refl
-live-after m (sell o) ok e =
-    let games = playable o (sell-accepted (houseOf m) o e .checked) .someGames in
-    sym (keep-snoc (isLive (m .game)) (m .live) (soldTicket m o) (sold-live m o games))
-live-after m (cancel n) ok e = unseen-drops m _ (λ t h. cond-either (Closed (m .game)) (eqb (t .number) n) (cancelled-closed m t h) h)
-live-after m (ball b) ok e = go (settles b m)
-  where
-    go :
-        (draw : Bool)
-        → cond draw (gameSettled b (houseOf m)) (ballEntered b (houseOf m)) .live
-        ≡ stillLive (cond draw (gameSettled b (houseOf m)) (ballEntered b (houseOf m)) .game)
-        (cond draw
-        (map (finishedOn (m .day) (m .game + 1)) (awarded (m .game) (settlement b (houseOf m) .awards) (m .live)))
-        (m .live))
-    go true = awarded-live (m .day) (m .game) (settlement b (houseOf m) .awards) (m .live)
-    go false = refl
-live-after m (claim n) ok e = unseen-drops m _ (λ t h. cond-either (Closed (m .game)) (eqb (t .number) n) (paid-closed (m .game) t h) h)
-live-after m expire ok e = unseen-drops m _ (λ t h. cond-either (Closed (m .game)) (isExpired m t) (paid-closed (m .game) t h) h)
-live-after m (transfer j cents) ok e = refl
+-- the house's tickets after a game, from the ledger's
+pub ended-live : (m : Model) (awards : List ℕ) → ticketsAfterGame (m .day) (m .game) awards (houseOf m .live) ≡ stillLive (m .game + 1) (endedTickets awards m)
+unfolding stillLive
+ended-live m awards = awarded-live (m .day) (m .game) awards (m .live)
 
-pub house-after :
-    (m : Model) (c : Command)
-    → Orderly m
-    → codeOf (houseOf m) c ≡ 0
-    → act (houseOf m) c ≡ houseOf (ledgerAfter m c)
-house-after m c ok e = ap (withLive (act (houseOf m) c)) (live-after m c ok e)
+-- ---- the house after each command that adds or may close tickets
+
+pub sold-house : (m : Model) (o : Operands) → 1 ≤ o .games → sold o (houseOf m) ≡ houseOf (sold o m)
+unfolding sold stillLive
+sold-house m o games = ap (withLive (sold o (houseOf m))) (sym (keep-snoc (isLive (m .game)) (m .live) (soldTicket m o) (sold-live m o games)))
+
+pub cancelled-house : (m : Model) (n : ℕ) → cancelled n (houseOf m) ≡ houseOf (cancelledLedger n m)
+unfolding cancelled stillLive changed
+cancelled-house m n =
+    ap (withLive (cancelled n (houseOf m)))
+    (unseen-drops m _ (λ t h. cond-either (Closed (m .game)) (eqb (t .number) n) (cancelled-closed m t h) h))
+
+pub settled-house : (m : Model) (b : ℕ) → gameSettled b (houseOf m) ≡ houseOf (settledLedger b m)
+unfolding gameSettled
+settled-house m b = ap (withLive (gameSettled b (houseOf m))) (ended-live m (settlement b (houseOf m) .awards))
+
+pub claimed-house : (m : Model) (n : ℕ) → claimed n (houseOf m) ≡ houseOf (claimedLedger n m)
+unfolding claimed stillLive changed
+claimed-house m n =
+    ap (withLive (claimed n (houseOf m)))
+    (unseen-drops m _ (λ t h. cond-either (Closed (m .game)) (eqb (t .number) n) (paid-closed (m .game) t h) h))
+
+pub expired-house : (m : Model) → expired (houseOf m) ≡ houseOf (expiredLedger m)
+unfolding expired stillLive isExpired
+expired-house m =
+    ap (withLive (expired (houseOf m)))
+    (unseen-drops m _ (λ t h. cond-either (Closed (m .game)) (isExpired m t) (paid-closed (m .game) t h) h))

@@ -9,7 +9,7 @@ use lib.Dec.{eqb}
 use lib.ListN.{length, length-append}
 use borrow.Author.Tests.{eq-eqb, ne-eqb, eqb-true, eqb-false}
 use Rattle.house.specs.Model.{Model}
-use Rattle.house.specs.Commands.{Command, ball, Answer, codeOf, ballsWith, settles, gameSettled, ballEntered, act, reply, step}
+use Rattle.house.specs.Commands.{Command, ball, Answer, codeOf, ballsWith, settles, gameSettled, ballEntered, act, reply, answerOf, step}
 
 -- a refused command leaves the house exactly as it was, and answers its number, 0, 0
 pub refused-unchanged :
@@ -23,7 +23,7 @@ refused-unchanged m c refused = rw (ne-eqb (codeOf m c) 0 refused) (refl, refl)
 pub accepted-done :
     (m : Model) (c : Command)
     → codeOf m c ≡ 0
-    → (step m c .house ≡ act m c) × (step m c .answer ≡ reply m c)
+    → (step m c .house ≡ act m c) × (step m c .answer ≡ answerOf (reply m c))
 unfolding step
 accepted-done m c e = rw (eq-eqb (codeOf m c) 0 e) (refl, refl)
 

@@ -1,30 +1,80 @@
 -- Every ledger that accepted commands make is orderly: tickets are numbered from 1 in the order of their sale, each keeps the terms that it was
--- sold on, and its finishing day is set just where no game is left.
+-- sold on, its finishing day is set just where no game is left, and the balls in are different numbers, since no other is let in.
 use Prim.Native.Nat.{ℕ, zero, suc, _+_, _≤_, min}
 use native.Mathlib.Omega.{arith}
 use native.Mathlib.Numerals.{add-one}
 use native.Mathlib.Nat.{add-zero}
-use mathlib.Core.Path.{_≡_, refl, sym, ap, _∙_}
+use mathlib.Core.Path.{_≡_, refl, sym, ap, ap₂, _∙_}
 use mathlib.Core.Bool.{Bool, true, false, cond, _&&_}
-use mathlib.Core.List.{List, [], _∷_, _++_, map}
-use lib.Dec.{eqb}
+use mathlib.Core.List.{List, [], _∷_, _++_, map, map-append}
+use lib.Dec.{leb, eqb}
 use lib.ListN.{length, length-map, length-append}
-use borrow.Author.Tests.{eqb-true, eqb-false}
+use borrow.Author.Tests.{le-leb, ne-eqb, eqb-true, eqb-false}
+use Rattle.sale.specs.Lists.{every, any, member}
 use Rattle.sale.specs.Checks.{Operands}
 use Rattle.sale.specs.Bounds.{Playable}
 use Rattle.house.specs.Tickets.{Ticket, runsIn, gamesLeft, isFinished, withDue, withStop, withFinishedDay}
 use Rattle.house.specs.Model.{Model, Counters, fresh, gameLimit, nextGame}
-use Rattle.house.specs.Commands.{Command, open′, sell, cancel, ball, claim, expire, transfer, codeOf, act, opened, sold, cancelled, gameSettled, ballEntered, claimed, expired, transferred, changed, awarded, ballsWith, settles, settlement, finishedOn, cancelStop, cancelledTicket, soldTicket, isExpired}
+use Rattle.house.specs.Commands.{ball, codeOf, sold, soldTicket, cancelStop, cancelledTicket, ballsWith, settles, settlement, awarded, finishedOn, gameSettled, ballEntered}
+use Rattle.house.specs.Draws.{Different, DifferentBalls}
 use Rattle.house.specs.Sheet.{gamesFrom}
-use Rattle.house.proofs.Ledger.{All, Fixed, fixedPart, Kept, Orderly, houseOf, withLive, ledgerAfter}
-use Rattle.house.proofs.ListLaws.{cond-either, All-append, All-map, map-append, map-same}
+use Rattle.house.proofs.Ledger.{All, Fixed, fixedPart, Kept, BallsIn, Orderly, houseOf, settledLedger}
+use Rattle.house.proofs.ListLaws.{cond-either, All-append, All-map, map-unseen}
 use Rattle.house.proofs.LiveTickets.{finished-on-keeps, awardTo, awarded-keeps, all-awarded, next-game-least}
-use Rattle.house.proofs.Refusals.{SellAccepted, sell-accepted, cancel-accepted, ball-accepted}
+use Rattle.house.proofs.Refusals.{or-false, and-true, SellAccepted, ball-accepted}
 use Rattle.house.proofs.CheckedOperands.{playable}
+
+-- ---- the balls
+
+-- one number more
+member-more : (n b : ℕ) (ns : List ℕ) → (n ≡ b → ⊥) → member n ns ≡ false → member n (ns ++ (b ∷ [])) ≡ false
+unfolding member any
+member-more n b [] other e = rw (ne-eqb n b other)
+member-more n b (m ∷ ns) other e =
+    let p = or-false (eqb n m) (any (eqb n) ns) e in
+    rw (p .0) (member-more n b ns other (p .1))
+
+different-more : (b : ℕ) (ns : List ℕ) → member b ns ≡ false → Different ns → Different (ns ++ (b ∷ []))
+unfolding member any
+different-more b [] new different = (refl, tt)
+different-more b (n ∷ ns) new (first, rest) =
+    let p = or-false (eqb b n) (any (eqb b) ns) new in
+    (member-more n b ns (λ e. eqb-false b n (p .0) (sym e)) first, different-more b ns (p .1) rest)
+
+numbers-more : (f : ℕ → Bool) (b : ℕ) (ns : List ℕ) → f b ≡ true → every f ns ≡ true → every f (ns ++ (b ∷ [])) ≡ true
+unfolding every
+numbers-more f b [] e all = rw e
+numbers-more f b (n ∷ ns) e all =
+    let p = and-true (f n) (every f ns) all in
+    ap₂ _&&_ (p .0) (numbers-more f b ns e (p .1))
+
+-- a ball that is let in
+pub ball-differs : (m : Model) (b : ℕ) → codeOf m (ball b) ≡ 0 → DifferentBalls (m .balls) → DifferentBalls (ballsWith b m)
+ball-differs m b e before =
+    let h = ball-accepted m b e in
+    record {
+      numbers = numbers-more (λ n. leb 1 n && leb n 80) b (m .balls) (ap₂ _&&_ (le-leb 1 b (h .least)) (le-leb b 80 (h .most))) (before .numbers);
+      different = different-more b (m .balls) (h .new) (before .different);
+    }
+
+none-differ : DifferentBalls []
+unfolding every
+none-differ = record { numbers = refl; different = tt }
+
+pub no-balls : BallsIn []
+no-balls = record { few = omega arith; differ = none-differ }
+
+-- one that does not complete the draw
+ball-in : (m : Model) (b : ℕ) → codeOf m (ball b) ≡ 0 → settles b m ≡ false → BallsIn (m .balls) → BallsIn (ballsWith b m)
+ball-in m b accepted early before =
+    record {
+      few = omega (arith, length-append (m .balls) (b ∷ []), eqb-false (length (ballsWith b m)) 20 early, before .few);
+      differ = ball-differs m b accepted (before .differ);
+    }
 
 pub orderly-fresh : Orderly fresh
 unfolding gamesFrom
-orderly-fresh = record { issued = refl; numbers = refl; tickets = tt; balls = omega arith; games = omega arith }
+orderly-fresh = record { issued = refl; numbers = refl; tickets = tt; balls = no-balls; games = omega arith }
 
 -- ---- numbers
 
@@ -60,7 +110,7 @@ finished-on-kept day game t opened fixed ends running = go (isFinished game t) (
     go true false e f = record { fixed = fixed; ends = ends; running = running; finished = λ none. eqb-false _ _ f }
     go false b e f = record { fixed = fixed; ends = ends; running = running; finished = λ none. absurd (eqb-false _ _ e none) }
 
-cancelled-kept :
+pub cancelled-kept :
     (m : Model) (t : Ticket) → (m .day ≡ 0 → ⊥) → Kept (m .game) t → Kept (m .game) (cancelledTicket m t)
 unfolding gamesLeft
 cancelled-kept m t opened h =
@@ -71,7 +121,7 @@ cancelled-kept m t opened h =
     (omega (arith, h .ends))
     (λ left. h .running (λ none. left (omega (arith, none))))
 
-paid-kept : (game cents : ℕ) (t : Ticket) → Kept game t → Kept game (withDue t cents)
+pub paid-kept : (game cents : ℕ) (t : Ticket) → Kept game t → Kept game (withDue t cents)
 unfolding gamesLeft
 paid-kept game cents t h = record { fixed = h .fixed; ends = h .ends; running = h .running; finished = h .finished }
 
@@ -98,13 +148,13 @@ sold-kept m o p ends =
 -- ---- the ledger
 
 -- a ledger with the same numbers
-orderly-with :
+pub orderly-with :
     (m after : Model)
     → Orderly m
     → after .issued ≡ m .issued
     → numbersOf (after .live) ≡ numbersOf (m .live)
     → All (Kept (after .game)) (after .live)
-    → length (after .balls) ≤ 19
+    → BallsIn (after .balls)
     → 1 ≤ after .game
     → Orderly after
 orderly-with m after ok issued numbers tickets balls games =
@@ -118,7 +168,7 @@ orderly-with m after ok issued numbers tickets balls games =
     }
 
 -- some tickets are changed, and their numbers are not
-orderly-changed :
+pub orderly-changed :
     (m : Model) (counters : Counters) (test : Ticket → Bool) (f : Ticket → Ticket)
     → Orderly m
     → ((t : Ticket) → f t .number ≡ t .number)
@@ -127,7 +177,7 @@ orderly-changed :
     (record { day = m .day; game = m .game; balls = m .balls; issued = m .issued; live = map (λ t. cond (test t) (f t) t) (m .live); six = m .six; eight = m .eight; counters = counters })
 orderly-changed m counters test f ok same kept =
     orderly-with m _ ok refl
-    (map-same (λ t. t .number) (λ t. cond (test t) (f t) t)
+    (map-unseen (λ t. t .number) (λ t. cond (test t) (f t) t)
     (λ t. cond-either (λ (u : Ticket). u .number ≡ t .number) (test t) (same t) refl)
     (m .live))
     (All-map (Kept (m .game)) (Kept (m .game)) (λ t. cond (test t) (f t) t)
@@ -137,8 +187,8 @@ orderly-changed m counters test f ok same kept =
     (ok .balls)
     (ok .games)
 
-orderly-sold : (m : Model) (o : Operands) → Orderly m → SellAccepted (houseOf m) o → Orderly (ledgerAfter m (sell o))
-unfolding act sold
+pub orderly-sold : (m : Model) (o : Operands) → Orderly m → SellAccepted (houseOf m) o → Orderly (sold o m)
+unfolding sold
 orderly-sold m o ok h =
     let next : m .issued + 1 ≡ 1 + length (m .live) = omega (arith, ok .issued) in
     let longer : length (m .live ++ (soldTicket m o ∷ [])) ≡ suc (length (m .live)) = rw (length-append (m .live) (soldTicket m o ∷ [])) (add-one (length (m .live))) in
@@ -151,14 +201,14 @@ orderly-sold m o ok h =
     }
 
 -- the twentieth ball
-orderly-settled :
+pub orderly-settled :
     (m : Model) (b : ℕ) → Orderly m → (m .day ≡ 0 → ⊥)
-    → Orderly (withLive (gameSettled b (houseOf m)) (map (finishedOn (m .day) (m .game + 1)) (awarded (m .game) (settlement b (houseOf m) .awards) (m .live))))
+    → Orderly (settledLedger b m)
 unfolding gameSettled
 orderly-settled m b ok opened =
     let awards = settlement b (houseOf m) .awards in
     orderly-with m _ ok refl
-    (map-same (λ t. t .number) (finishedOn (m .day) (m .game + 1))
+    (map-unseen (λ t. t .number) (finishedOn (m .day) (m .game + 1))
     (finished-on-keeps (λ t. t .number) (λ t d. refl) (m .day) (m .game + 1))
     (awarded (m .game) awards (m .live))
     ∙ awarded-keeps (λ t. t .number) (λ t d. refl) (m .game) awards (m .live))
@@ -166,39 +216,13 @@ orderly-settled m b ok opened =
     (λ t. later-kept (m .day) (m .game) t opened)
     (awarded (m .game) awards (m .live))
     (all-awarded (Kept (m .game)) (Kept (m .game)) (m .game) (award-kept (m .game)) awards (m .live) (ok .tickets)))
-    (omega arith)
+    no-balls
     (omega arith)
 
 -- a ball before it
-orderly-entered :
-    (m : Model) (b : ℕ) → Orderly m → settles b m ≡ false
-    → Orderly (withLive (ballEntered b (houseOf m)) (m .live))
+pub orderly-entered :
+    (m : Model) (b : ℕ) → Orderly m → codeOf (houseOf m) (ball b) ≡ 0 → settles b m ≡ false
+    → Orderly (ballEntered b m)
 unfolding ballEntered
-orderly-entered m b ok e =
-    orderly-with m _ ok refl refl (ok .tickets) (omega (arith, length-append (m .balls) (b ∷ []), eqb-false (length (ballsWith b m)) 20 e, ok .balls)) (ok .games)
-
-pub orderly-after : (m : Model) (c : Command) → Orderly m → codeOf (houseOf m) c ≡ 0 → Orderly (ledgerAfter m c)
-unfolding act opened cancelled claimed expired transferred changed
-orderly-after m (open′ d) ok e = orderly-with m _ ok refl refl (ok .tickets) (ok .balls) (ok .games)
-orderly-after m (sell o) ok e = orderly-sold m o ok (sell-accepted (houseOf m) o e)
-orderly-after m (cancel n) ok e =
-    orderly-changed m _ (λ t. eqb (t .number) n) (cancelledTicket m) ok
-    (λ t. finished-on-keeps (λ u. u .number) (λ u d. refl) (m .day) (m .game) (withStop t (min (t .stop) (cancelStop m t))))
-    (λ t. cancelled-kept m t (cancel-accepted (houseOf m) n e .opened))
-orderly-after m (ball b) ok e = go (settles b m) refl
-  where
-    go :
-        (draw : Bool)
-        → settles b m ≡ draw
-        → Orderly
-        (withLive (cond draw (gameSettled b (houseOf m)) (ballEntered b (houseOf m)))
-        (cond draw
-        (map (finishedOn (m .day) (m .game + 1)) (awarded (m .game) (settlement b (houseOf m) .awards) (m .live)))
-        (m .live)))
-    go true f = orderly-settled m b ok (ball-accepted (houseOf m) b e .opened)
-    go false f = orderly-entered m b ok f
-orderly-after m (claim n) ok e =
-    orderly-changed m _ (λ t. eqb (t .number) n) (λ t. withDue t 0) ok (λ t. refl) (paid-kept (m .game) 0)
-orderly-after m expire ok e =
-    orderly-changed m _ (isExpired m) (λ t. withDue t 0) ok (λ t. refl) (paid-kept (m .game) 0)
-orderly-after m (transfer j cents) ok e = orderly-with m _ ok refl refl (ok .tickets) (ok .balls) (ok .games)
+orderly-entered m b ok e early =
+    orderly-with m _ ok refl refl (ok .tickets) (ball-in (houseOf m) b e early (ok .balls)) (ok .games)

@@ -55,7 +55,7 @@ module _ (m : Model) (orderly : Orderly m) (bounded : Bounded m) (fits : Fit m) 
         issued = bounded .issued;
         begun = orderly .games;
         game = bounded .game;
-        balls = orderly .balls;
+        balls = orderly .balls .few;
         fit = fit-house;
         dues = dues-fit (houseOf m) fit-house;
       }

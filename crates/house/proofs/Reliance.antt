@@ -2,23 +2,23 @@
 use Prim.Native.Nat.{ℕ, _+_, _≤_, _<_, min, max}
 use native.Mathlib.Omega.{arith}
 use mathlib.Core.Path.{_≡_, refl, sym, ap, subst, subst⁻¹, _∙_}
-use mathlib.Core.Bool.{Bool, true, false, cond, _&&_}
+use mathlib.Core.Bool.{false}
 use mathlib.Core.List.{List, [], _∷_, _++_, map}
-use lib.Dec.{eqb}
 use lib.ListN.{length, length-append}
 use Rattle.sale.specs.Lists.{member}
 use Rattle.sale.specs.Checks.{Operands, chargeOf}
 use Rattle.prizes.specs.Jackpots.{guaranteeOfSix, guaranteeOfEight}
-use Rattle.house.specs.Tickets.{Ticket, isFinished, isLive, paidStakes, heldFor, withStop, withFinishedDay}
+use Rattle.house.specs.Tickets.{Ticket, isLive, paidStakes, heldFor, withStop}
 use Rattle.house.specs.Model.{Model, nextGame}
-use Rattle.house.specs.Commands.{Command, sell, cancel, ball, claim, replies, ticketAt, stillLive, runningIn, finishedOn, cancelStop, cancelledTicket, codeOf, refundOf, sold, cancelled, gameSettled, ballEntered, claimed, act, reply, step}
+use Rattle.house.specs.Commands.{Command, sell, cancel, ball, claim, replies, ticketAt, stillLive, runningIn, cancelStop, cancelledTicket, codeOf, refundOf, sold, cancelled, gameSettled, ballEntered, claimed, act, reply, answerOf, step}
 use Rattle.house.specs.Till.{tillOf}
 use Rattle.house.specs.Claims.{sheetOf, gameOf, gamesOf, spanOf, wonBy, payments}
 use Rattle.house.specs.Balance.{run, answerAfter, Reached, Balanced}
 use Rattle.house.proofs.Ledger.{houseOf}
 use Rattle.house.proofs.Refusals.{cancel-accepted}
 use Rattle.house.proofs.SpanLaws.{stakes-split}
-use Rattle.house.proofs.LiveTickets.{next-game-least}
+use Rattle.house.proofs.LiveTickets.{finished-on-keeps, next-game-least}
+use Rattle.house.proofs.SheetFigures.{finished-held}
 use Rattle.house.proofs.Numbered.{found}
 use Rattle.house.proofs.Won.{RunsBy, TicketTold, claim-due}
 use Rattle.house.proofs.Theorem.{Booked, booked, reached-booked, till-balances}
@@ -31,7 +31,7 @@ pub use Rattle.house.proofs.OneCommand.{refused-unchanged, accepted-don
 pub writers :
     (cs : List Command) (o : Operands)
     → answerAfter cs (sell o) .code ≡ 0
-    → (answerAfter cs (sell o) ≡ replies (run cs .house .issued + 1) (chargeOf o))
+    → (answerAfter cs (sell o) ≡ answerOf (replies (run cs .house .issued + 1) (chargeOf o)))
     × (step (run cs .house) (sell o) .house .counters .taken ≡ run cs .house .counters .taken + chargeOf o)
 unfolding act reply sold
 writers cs o ok =
@@ -49,26 +49,10 @@ pub record Refunded (cs : List Command) (m : Model) (n : ℕ) (t : Ticket) : Typ
   pub some : cancelStop m t < t .stop
   pub stops : cancelledTicket m t .stop ≡ cancelStop m t
   -- it answers the paid stakes of what it takes off
-  pub answers : step m (cancel n) .answer ≡ replies n (paidStakes (cancelStop m t) (t .stop) t)
+  pub answers : step m (cancel n) .answer ≡ answerOf (replies n (paidStakes (cancelStop m t) (t .stop) t))
   pub refunded : step m (cancel n) .house .counters .refunded ≡ m .counters .refunded + paidStakes (cancelStop m t) (t .stop) t
   -- and no more than it takes from what is held for the ticket
   pub held : heldFor (m .game) t ≡ heldFor (m .game) (cancelledTicket m t) + paidStakes (cancelStop m t) (t .stop) t
-
--- a finishing day changes neither a ticket's end nor what is held for it
-finished-stop : (day game : ℕ) (t : Ticket) → finishedOn day game t .stop ≡ t .stop
-finished-stop day game t = go (isFinished game t && eqb (t .finishedDay) 0)
-  where
-    go : (done : Bool) → cond done (withFinishedDay t day) t .stop ≡ t .stop
-    go true = refl
-    go false = refl
-
-finished-held : (day game : ℕ) (t : Ticket) → heldFor game (finishedOn day game t) ≡ heldFor game t
-unfolding paidStakes
-finished-held day game t = go (isFinished game t && eqb (t .finishedDay) 0)
-  where
-    go : (done : Bool) → heldFor game (cond done (withFinishedDay t day) t) ≡ heldFor game t
-    go true = refl
-    go false = refl
 
 -- what is left of a ticket once its games from cancelStop on are taken off
 module _ (m : Model) (t : Ticket) (some : cancelStop m t < t .stop) where
@@ -76,12 +60,12 @@ module _ (m : Model) (t : Ticket) (some : cancelStop m t < t .stop) where
   cut-off = omega arith
 
   stops-there : cancelledTicket m t .stop ≡ cancelStop m t
-  stops-there = finished-stop (m .day) (m .game) (withStop t (min (t .stop) (cancelStop m t))) ∙ cut-off
+  stops-there = finished-on-keeps (λ u. u .stop) (λ u d. refl) (m .day) (m .game) (withStop t (min (t .stop) (cancelStop m t))) ∙ cut-off
 
   held-left : heldFor (m .game) (cancelledTicket m t) ≡ paidStakes (max (t .first) (m .game)) (cancelStop m t) t
   unfolding paidStakes
   held-left =
-      finished-held (m .day) (m .game) (withStop t (min (t .stop) (cancelStop m t)))
+      finished-held (m .day) (m .game) (m .game) (withStop t (min (t .stop) (cancelStop m t)))
       ∙ ap (λ stop. paidStakes (max (t .first) (m .game)) stop t) cut-off
 
   held-parted : heldFor (m .game) t ≡ heldFor (m .game) (cancelledTicket m t) + paidStakes (cancelStop m t) (t .stop) t
@@ -153,7 +137,7 @@ draw-hand cs b ok =
 pub cashiers :
     (cs : List Command) (n : ℕ)
     → answerAfter cs (claim n) .code ≡ 0
-    → (answerAfter cs (claim n) ≡ replies n (wonBy n (run cs .log)))
+    → (answerAfter cs (claim n) ≡ answerOf (replies n (wonBy n (run cs .log))))
     × (step (run cs .house) (claim n) .house .counters .paid ≡ run cs .house .counters .paid + wonBy n (run cs .log))
     × (payments n (run cs .log) ≡ 0)
 unfolding act reply claimed
@@ -164,7 +148,7 @@ cashiers cs n ok =
     let done = accepted-done m (claim n) e in
     let due = claim-due (b .ledger) (run cs .log) n (b .told) (sym (ap (λ h. codeOf h (claim n)) (b .house)) ∙ e) in
     let won : ticketAt n (m .live) .due ≡ wonBy n (run cs .log) = ap (λ (h : Model). ticketAt n (h .live) .due) (b .house) ∙ due .0 in (
-      done .1 ∙ ap (replies n) won,
+      done .1 ∙ ap (λ cents. answerOf (replies n cents)) won,
       ap (λ h. h .counters .paid) (done .0) ∙ ap (λ k. m .counters .paid + k) won,
       due .1,
     )

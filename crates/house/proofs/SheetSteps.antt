@@ -18,13 +18,12 @@ use Rattle.prizes.specs.Jackpots.{pooled}
 use Rattle.prizes.specs.Settle.{Settled}
 use Rattle.house.specs.Tickets.{Ticket, runsIn, paidStakes, heldFor, entryOf}
 use Rattle.house.specs.Model.{Model, withTaken, withPaid, withRefunded, withUnclaimed, withTransferred, withGained, withLost, withSeeds}
-use Rattle.house.specs.Commands.{Command, open′, sell, cancel, ball, claim, expire, transfer, act, codeOf, hasTicket, opened, sold, soldTicket, cancelled, ballsWith, settles, settlement, runningIn, stakesDrawn, awarded, finishedOn, afterGame, gameSettled, ballEntered, claimed, expired, transferred, withPrimary}
+use Rattle.house.specs.Commands.{open′, sell, cancel, ball, claim, expire, transfer, hasTicket, opened, sold, soldTicket, cancelled, ballsWith, settles, settlement, runningIn, stakesDrawn, awarded, finishedOn, afterGame, gameSettled, ballEntered, claimed, expired, transferred, withPrimary}
 use Rattle.house.specs.Till.{tillOf}
 use Rattle.house.specs.Sheet.{Sheet, sheetWith, gameWith, poolsWith, onFigure, newLine, moved, sheetOpen, sheetSell, sheetCancel, stakesPlayed, sheetSettlement, sheetSettle, sheetBall, twentieth, sheetClaim, sheetExpire, sheetTransfer, primaryWith}
 use Rattle.house.specs.Balance.{Balanced}
-use Rattle.house.proofs.Ledger.{Orderly, withLive, houseOf, lineOf, sheetFor, ledgerAfter}
+use Rattle.house.proofs.Ledger.{Orderly, houseOf, endedTickets, cancelledLedger, claimedLedger, expiredLedger, settledLedger, lineOf, sheetFor}
 use Rattle.house.proofs.MoneyLaws.{sum-snoc, sum-unmoved}
-use Rattle.house.proofs.Refusals.{cancel-accepted, claim-accepted, transfer-accepted}
 use Rattle.house.proofs.SheetLines.{sold-line, cancelled-lines, claimed-lines, expired-lines, settled-lines}
 use Rattle.house.proofs.SheetFigures.{tillFrom, dues, stakesHeld, sold-held, cancel-total, cancel-held, cancel-owed, claim-total, claim-owed, claim-held, late-dues, expire-owed, expire-held, finished-due, finished-held, awarded-owed, drawn-held, settlements-alike, stakes-alike}
 use Rattle.house.proofs.LiveTickets.{awarded-keeps, running-live}
@@ -32,13 +31,9 @@ use Rattle.prizes.proofs.SettleLaws.{awards-count, awards-sum, pools-balance}
 
 -- ---- Open
 
-opened-sheet : (m : Model) (d : ℕ) → moved (open′ d) (sheetFor m) ≡ sheetFor (ledgerAfter m (open′ d))
-unfolding moved sheetOpen act opened tillOf
+pub opened-sheet : (m : Model) (d : ℕ) → moved (open′ d) (sheetFor m) ≡ sheetFor (opened d m)
+unfolding moved sheetOpen opened tillOf
 opened-sheet m d = refl
-
-opened-balance : (m : Model) (d : ℕ) → Balanced (tillOf m) → Balanced (tillOf (ledgerAfter m (open′ d)))
-unfolding act opened tillOf
-opened-balance m d balance = balance
 
 -- ---- Sell
 
@@ -51,8 +46,8 @@ module _ (m : Model) (o : Operands) where
       sum-snoc (heldFor (m .game)) (m .live) (soldTicket m o)
       ∙ ap (λ n. stakesHeld (m .game) (m .live) + n) (sold-held m o)
 
-  sold-sheet : Orderly m → moved (sell o) (sheetFor m) ≡ sheetFor (ledgerAfter m (sell o))
-  unfolding moved sheetSell onFigure act sold tillOf
+  pub sold-sheet : Orderly m → moved (sell o) (sheetFor m) ≡ sheetFor (sold o m)
+  unfolding moved sheetSell onFigure sold tillOf
   sold-sheet orderly =
       λ i. sheetWith (lines i) (tillFrom (withTaken (chargeOf o) (m .counters)) (sym sold-owed i) (sym sold-kept i) (tillOf m .pooled)) (sheetFor m)
     where
@@ -61,8 +56,8 @@ module _ (m : Model) (o : Operands) where
           ap (λ l. map (lineOf (m .game)) (m .live) ++ (l ∷ [])) (sold-line m o (orderly .issued))
           ∙ sym (map-append (lineOf (m .game)) (m .live) (soldTicket m o ∷ []))
 
-  sold-balance : Balanced (tillOf m) → Balanced (tillOf (ledgerAfter m (sell o)))
-  unfolding act sold tillOf
+  pub sold-balance : Balanced (tillOf m) → Balanced (tillOf (sold o m))
+  unfolding sold tillOf
   sold-balance balance = omega (arith, balance, sold-owed, sold-kept)
 
 -- ---- Cancel and Claim
@@ -72,8 +67,8 @@ taken-off-sum : {whole rest part off : ℕ} → whole ≡ rest + part → off �
 taken-off-sum parts same = omega arith
 
 module _ (m : Model) (n : ℕ) (orderly : Orderly m) (here : hasTicket n (houseOf m .live) ≡ true) where
-  cancelled-sheet : moved (cancel n) (sheetFor m) ≡ sheetFor (ledgerAfter m (cancel n))
-  unfolding moved sheetCancel onFigure act cancelled tillOf
+  pub cancelled-sheet : moved (cancel n) (sheetFor m) ≡ sheetFor (cancelledLedger n m)
+  unfolding moved sheetCancel onFigure cancelled tillOf
   cancelled-sheet =
       let refund = cancel-total m n orderly here in
       λ i.
@@ -81,12 +76,12 @@ module _ (m : Model) (n : ℕ) (orderly : Orderly m) (here : hasTicket n (houseO
       (tillFrom (withRefunded (refund i) (m .counters)) (sym (cancel-owed m n) i) (taken-off-sum (cancel-held m n orderly here) refund i) (tillOf m .pooled))
       (sheetFor m)
 
-  cancelled-balance : Balanced (tillOf m) → Balanced (tillOf (ledgerAfter m (cancel n)))
-  unfolding act cancelled tillOf
+  pub cancelled-balance : Balanced (tillOf m) → Balanced (tillOf (cancelledLedger n m))
+  unfolding cancelled tillOf
   cancelled-balance balance = omega (arith, balance, cancel-owed m n, cancel-held m n orderly here)
 
-  claimed-sheet : moved (claim n) (sheetFor m) ≡ sheetFor (ledgerAfter m (claim n))
-  unfolding moved sheetClaim onFigure act claimed tillOf
+  pub claimed-sheet : moved (claim n) (sheetFor m) ≡ sheetFor (claimedLedger n m)
+  unfolding moved sheetClaim onFigure claimed tillOf
   claimed-sheet =
       let due = claim-total m n orderly here in
       λ i.
@@ -94,15 +89,15 @@ module _ (m : Model) (n : ℕ) (orderly : Orderly m) (here : hasTicket n (houseO
       (tillFrom (withPaid (due i) (m .counters)) (taken-off-sum (claim-owed m n orderly here) due i) (sym (claim-held m n) i) (tillOf m .pooled))
       (sheetFor m)
 
-  claimed-balance : Balanced (tillOf m) → Balanced (tillOf (ledgerAfter m (claim n)))
-  unfolding act claimed tillOf
+  pub claimed-balance : Balanced (tillOf m) → Balanced (tillOf (claimedLedger n m))
+  unfolding claimed tillOf
   claimed-balance balance = omega (arith, balance, claim-owed m n orderly here, claim-held m n)
 
 -- ---- Expire
 
 module _ (m : Model) where
-  expired-sheet : moved expire (sheetFor m) ≡ sheetFor (ledgerAfter m expire)
-  unfolding moved sheetExpire onFigure act expired tillOf
+  pub expired-sheet : moved expire (sheetFor m) ≡ sheetFor (expiredLedger m)
+  unfolding moved sheetExpire onFigure expired tillOf
   expired-sheet =
       let late = ap sum (late-dues m) in
       λ i.
@@ -110,8 +105,8 @@ module _ (m : Model) where
       (tillFrom (withUnclaimed (late i) (m .counters)) (taken-off-sum (expire-owed m) late i) (sym (expire-held m) i) (tillOf m .pooled))
       (sheetFor m)
 
-  expired-balance : Balanced (tillOf m) → Balanced (tillOf (ledgerAfter m expire))
-  unfolding act expired tillOf
+  pub expired-balance : Balanced (tillOf m) → Balanced (tillOf (expiredLedger m))
+  unfolding expired tillOf
   expired-balance balance = omega (arith, balance, expire-owed m, expire-held m)
 
 -- ---- Transfer
@@ -136,8 +131,8 @@ module _ (m : Model) (j cents : ℕ) where
       go true = omega arith
       go false = omega arith
 
-  transferred-sheet : (j ≡ 6) ⊎ (j ≡ 8) → moved (transfer j cents) (sheetFor m) ≡ sheetFor (ledgerAfter m (transfer j cents))
-  unfolding moved sheetTransfer onFigure act transferred tillOf
+  pub transferred-sheet : (j ≡ 6) ⊎ (j ≡ 8) → moved (transfer j cents) (sheetFor m) ≡ sheetFor (transferred j cents m)
+  unfolding moved sheetTransfer onFigure transferred tillOf
   transferred-sheet named =
       let eight = ap (λ b. cond b (primaryWith cents (m .eight)) (m .eight)) (other-jackpot j named) ∙ go (eqb j 6) in
       λ i.
@@ -151,8 +146,8 @@ module _ (m : Model) (j cents : ℕ) where
       go true = refl
       go false = refl
 
-  transferred-balance : cents ≤ m .counters .unclaimed → Balanced (tillOf m) → Balanced (tillOf (ledgerAfter m (transfer j cents)))
-  unfolding act transferred tillOf
+  pub transferred-balance : cents ≤ m .counters .unclaimed → Balanced (tillOf m) → Balanced (tillOf (transferred j cents m))
+  unfolding transferred tillOf
   transferred-balance covered balance = omega (arith, balance, transferred-pooled)
 
 -- ---- Ball
@@ -168,7 +163,7 @@ module _ (m : Model) (b : ℕ) where
   result = settlement b (houseOf m)
 
   abbrev ticketsThen : List Ticket
-  ticketsThen = map (finishedOn (m .day) (m .game + 1)) (awarded (m .game) (result .awards) (m .live))
+  ticketsThen = endedTickets (result .awards) m
 
   abbrev sheetThen : Sheet
   sheetThen = sheetSettle (sheetSettlement b (sheetFor m)) (stakesPlayed (sheetFor m)) (sheetFor m)
@@ -214,7 +209,7 @@ module _ (m : Model) (b : ℕ) where
   settled-pools =
       pools-balance (drawOf (ballsWith b m)) (m .six) (m .eight) (map (entryOf (m .game)) (runningIn (houseOf m)))
 
-  settled-sheet : Orderly m → sheetThen ≡ sheetFor (withLive (gameSettled b (houseOf m)) ticketsThen)
+  settled-sheet : Orderly m → sheetThen ≡ sheetFor (settledLedger b m)
   unfolding sheetSettle onFigure gameSettled tillOf
   settled-sheet orderly =
       ap₂ (λ r stakes. sheetSettle r stakes (sheetFor m)) (settlements-alike m b orderly) (stakes-alike m orderly)
@@ -232,50 +227,15 @@ module _ (m : Model) (b : ℕ) where
       pools : tillOf m .pooled + (result .contributions + result .seeds) - (result .shares + result .repaid) ≡ pooled (result .six) + pooled (result .eight)
       pools = omega (arith, settled-pools)
 
-  settled-balance : Balanced (tillOf m) → Balanced (tillOf (withLive (gameSettled b (houseOf m)) ticketsThen))
+  pub settled-balance : Balanced (tillOf m) → Balanced (tillOf (settledLedger b m))
   unfolding gameSettled tillOf
   settled-balance balance = omega (arith, balance, settled-owed, settled-held, settled-pools)
 
-  abbrev ledgerThen : Bool → Model
-  ledgerThen last = withLive (cond last (gameSettled b (houseOf m)) (ballEntered b (houseOf m))) (cond last ticketsThen (m .live))
+  -- the sheet at a ball that completes the draw, and at one that does not
+  pub twentieth-sheet : Orderly m → settles b m ≡ true → moved (ball b) (sheetFor m) ≡ sheetFor (settledLedger b m)
+  unfolding moved sheetBall
+  twentieth-sheet orderly last = rw (twentieth-alike m b, last) (settled-sheet orderly)
 
-  ball-sheet : Orderly m → moved (ball b) (sheetFor m) ≡ sheetFor (ledgerAfter m (ball b))
-  unfolding moved sheetBall act ballEntered tillOf
-  ball-sheet orderly =
-      ap (λ last. cond last sheetThen (sheetFor (ledgerThen false))) (twentieth-alike m b) ∙ go (settles b m)
-    where
-      go : (last : Bool) → cond last sheetThen (sheetFor (ledgerThen false)) ≡ sheetFor (ledgerThen last)
-      go true = settled-sheet orderly
-      go false = refl
-
-  ball-balance : Balanced (tillOf m) → Balanced (tillOf (ledgerAfter m (ball b)))
-  unfolding act ballEntered tillOf
-  ball-balance balance = go (settles b m)
-    where
-      go : (last : Bool) → Balanced (tillOf (ledgerThen last))
-      go true = settled-balance balance
-      go false = balance
-
--- ---- every command
-
-pub sheet-after : (m : Model) (c : Command) → Orderly m → codeOf (houseOf m) c ≡ 0 →
-    moved c (sheetFor m) ≡ sheetFor (ledgerAfter m c)
-sheet-after m (open′ d) orderly accepted = opened-sheet m d
-sheet-after m (sell o) orderly accepted = sold-sheet m o orderly
-sheet-after m (cancel n) orderly accepted = cancelled-sheet m n orderly (cancel-accepted (houseOf m) n accepted .here)
-sheet-after m (ball b) orderly accepted = ball-sheet m b orderly
-sheet-after m (claim n) orderly accepted = claimed-sheet m n orderly (claim-accepted (houseOf m) n accepted .here)
-sheet-after m expire orderly accepted = expired-sheet m
-sheet-after m (transfer j cents) orderly accepted =
-    transferred-sheet m j cents (transfer-accepted (houseOf m) j cents accepted .jackpot)
-
-pub balanced-after : (m : Model) (c : Command) → Orderly m → codeOf (houseOf m) c ≡ 0 →
-    Balanced (tillOf m) → Balanced (tillOf (ledgerAfter m c))
-balanced-after m (open′ d) orderly accepted = opened-balance m d
-balanced-after m (sell o) orderly accepted = sold-balance m o
-balanced-after m (cancel n) orderly accepted = cancelled-balance m n orderly (cancel-accepted (houseOf m) n accepted .here)
-balanced-after m (ball b) orderly accepted = ball-balance m b
-balanced-after m (claim n) orderly accepted = claimed-balance m n orderly (claim-accepted (houseOf m) n accepted .here)
-balanced-after m expire orderly accepted = expired-balance m
-balanced-after m (transfer j cents) orderly accepted =
-    transferred-balance m j cents (transfer-accepted (houseOf m) j cents accepted .covered)
+  pub earlier-sheet : settles b m ≡ false → moved (ball b) (sheetFor m) ≡ sheetFor (ballEntered b m)
+  unfolding moved sheetBall ballEntered tillOf
+  earlier-sheet early = rw (twentieth-alike m b, early)

@@ -8,22 +8,21 @@ use lib.Dec.{eqb}
 use borrow.Author.Tests.{eqb-true, eqb-false}
 use Rattle.sale.specs.Lists.{keep}
 use Rattle.house.specs.Model.{Model, fresh}
-use Rattle.house.specs.Commands.{Command, open′, sell, cancel, ball, claim, expire, transfer, Answer, codeOf, act, reply, step, stillLive, runningIn}
+use Rattle.house.specs.Commands.{Command, claim, Answer, codeOf, act, reply, answerOf, step, stillLive, runningIn}
 use Rattle.house.specs.Till.{tillOf}
-use Rattle.house.specs.Sheet.{Sheet, playing, feed, moved, sheetNumber, sheetCents}
+use Rattle.house.specs.Sheet.{Sheet, playing, sheetReply}
 use Rattle.house.specs.Claims.{Log, sheetOf, PlaysExactly, wonBy}
 use Rattle.house.specs.Balance.{State, next, runFrom, run, Balanced, TillBalances, Reached}
-use Rattle.house.proofs.Ledger.{houseOf, ledgerAfter, sheetFor, Orderly}
-use Rattle.house.proofs.LiveTickets.{live-after, house-after}
-use Rattle.house.proofs.OrderlyLedgers.{orderly-fresh, orderly-after}
+use Rattle.house.proofs.Ledger.{houseOf, Orderly}
+use Rattle.house.proofs.OrderlyLedgers.{orderly-fresh}
 use Rattle.house.proofs.SheetFigures.{till-of-house}
-use Rattle.house.proofs.SheetSteps.{sheet-after, balanced-after}
-use Rattle.house.proofs.SheetAnswers.{answers-agree, balanced-fresh}
+use Rattle.house.proofs.SheetAnswers.{balanced-fresh}
 use Rattle.house.proofs.LogLaws.{logged}
-use Rattle.house.proofs.Won.{Told, told-fresh, told-refused, told-after, claim-pays}
+use Rattle.house.proofs.Won.{Told, told-fresh, told-refused, claim-pays}
 use Rattle.house.proofs.Players.{house-players, sheet-players}
-use Rattle.house.proofs.Bounded.{Bounded, bounded-fresh, bounded-after}
+use Rattle.house.proofs.Bounded.{Bounded, bounded-fresh, figures-fit}
 use Rattle.house.proofs.OneCommand.{refused-unchanged, accepted-done, accepted-code}
+use Rattle.house.proofs.EachCommand.{Shown, ShortDay, Followed, followed}
 
 -- what holds of a house and the log of its commands
 pub record Booked (h : Model) (log : Log) : Type 0 where
@@ -46,17 +45,6 @@ booked-fresh =
       bounded = bounded-fresh;
     }
 
--- an accepted command answers with the code 0
-pub reply-code : (m : Model) (c : Command) → reply m c .code ≡ 0
-unfolding reply
-reply-code m (open′ d) = refl
-reply-code m (sell o) = refl
-reply-code m (cancel n) = refl
-reply-code m (ball b) = refl
-reply-code m (claim n) = refl
-reply-code m expire = refl
-reply-code m (transfer j cents) = refl
-
 -- one command more, accepted or refused
 module _ (h : Model) (log : Log) (c : Command) (b : Booked h log) where
   abbrev before : Model
@@ -65,20 +53,20 @@ module _ (h : Model) (log : Log) (c : Command) (b : Booked h log) where
   accepted-there : codeOf h c ≡ 0 → codeOf (houseOf before) c ≡ 0
   accepted-there accepted = sym (ap (λ m. codeOf m c) (b .house)) ∙ accepted
 
-  fed : codeOf h c ≡ 0 → sheetOf (logged c 0 ∷ log) ≡ sheetFor (ledgerAfter before c)
-  unfolding sheetOf feed
-  fed accepted = ap (moved c) (b .told .sheet) ∙ sheet-after before c (b .orderly) (accepted-there accepted)
+  -- what is shown of it where it is accepted
+  follows : codeOf h c ≡ 0 → Followed before log c (act (houseOf before) c) (reply (houseOf before) c)
+  follows accepted = followed before log (b .orderly) (b .told) (b .bounded) (b .balanced) c (accepted-there accepted)
 
   booked-accepted : codeOf h c ≡ 0 → Booked (act h c) (logged c 0 ∷ log)
   booked-accepted accepted =
-      let there = accepted-there accepted in
+      let f = follows accepted in
       record {
-        ledger = ledgerAfter before c;
-        house = ap (λ m. act m c) (b .house) ∙ house-after before c (b .orderly) there;
-        orderly = orderly-after before c (b .orderly) there;
-        told = told-after before log c (b .orderly) (b .told) there (fed accepted);
-        balanced = balanced-after before c (b .orderly) there (b .balanced);
-        bounded = bounded-after before c (b .orderly) (b .bounded) there (live-after before c (b .orderly) there);
+        ledger = f .ledger;
+        house = ap (λ m. act m c) (b .house) ∙ f .drops;
+        orderly = f .orderly;
+        told = f .told;
+        balanced = f .balanced;
+        bounded = f .bounded;
       }
 
   booked-refused : (codeOf h c ≡ 0 → ⊥) → Booked h (logged c (codeOf h c) ∷ log)
@@ -100,7 +88,7 @@ module _ (h : Model) (log : Log) (c : Command) (b : Booked h log) where
           let accepted : codeOf h c ≡ 0 = eqb-true (codeOf h c) 0 e in
           let done = accepted-done h c accepted in
           subst₂ (λ (m : Model) (code : ℕ). Booked m (logged c code ∷ log)) (sym (done .0))
-          (sym (ap (λ (a : Answer). a .code) (done .1) ∙ reply-code h c)) (booked-accepted accepted)
+          (sym (ap (λ (a : Answer). a .code) (done .1))) (booked-accepted accepted)
       go false e =
           let refused : codeOf h c ≡ 0 → ⊥ = eqb-false (codeOf h c) 0 e in
           let same = refused-unchanged h c refused in
@@ -121,13 +109,15 @@ module _ (h : Model) (log : Log) (c : Command) (b : Booked h log) (accepted : st
   code-there : codeOf h c ≡ 0
   code-there = accepted-code h c accepted
 
-  answer-there : step h c .answer ≡ reply (houseOf (b .ledger)) c
-  answer-there = accepted-done h c code-there .1 ∙ ap (λ m. reply m c) (b .house)
+  answer-there : step h c .answer ≡ answerOf (reply (houseOf (b .ledger)) c)
+  answer-there = accepted-done h c code-there .1 ∙ ap (λ m. answerOf (reply m c)) (b .house)
 
-  answers-sheet : (step h c .answer .number ≡ sheetNumber (sheetOf log) c) × (step h c .answer .cents ≡ sheetCents (sheetOf log) c)
+  answers-sheet : (step h c .answer .number ≡ sheetReply (sheetOf log) c .number) × (step h c .answer .cents ≡ sheetReply (sheetOf log) c .cents)
   answers-sheet =
-      let agree = answers-agree (b .ledger) c (b .orderly) (accepted-there h log c b code-there) in
-      rw (answer-there, b .told .sheet) agree
+      let agree : reply (houseOf (b .ledger)) c ≡ sheetReply (sheetOf log) c =
+      follows h log c b code-there .agrees ∙ ap (λ (s : Sheet). sheetReply s c) (sym (b .told .sheet)) in
+      let same = answer-there ∙ ap answerOf agree in
+      (ap (λ (a : Answer). a .number) same, ap (λ (a : Answer). a .cents) same)
 
 claim-in : (h : Model) (log : Log) (n : ℕ) (b : Booked h log) → step h (claim n) .answer .code ≡ 0 → step h (claim n) .answer .cents ≡ wonBy n log
 claim-in h log n b accepted =
@@ -162,6 +152,15 @@ till-balances cs =
 -- a reached house is booked, with some log
 pub reached-booked : (m : Model) → Reached m → (log : Log) × Booked m log
 reached-booked m r = (run (r .commands) .log, subst (λ (h : Model). Booked h (run (r .commands) .log)) (r .comes) (booked (r .commands)))
+
+-- what it answers to an accepted command fits the answer's bytes
+pub reply-shown : (m : Model) (c : Command) → Reached m → ShortDay c → codeOf m c ≡ 0 → Shown (reply m c)
+reply-shown m c r short accepted =
+    let booked-here = reached-booked m r in
+    let b = booked-here .1 in
+    let f = follows m (booked-here .0) c b accepted in
+    subst⁻¹ (λ (h : Model). Shown (reply h c)) (b .house)
+    (f .shown short (figures-fit (b .ledger) (b .bounded) (b .balanced)) (figures-fit (f .ledger) (f .bounded) (f .balanced)))
 
 -- a command keeps a house reached
 pub reached-more : (cs : List Command) (s : State) (c : Command) → runFrom s (cs ++ (c ∷ [])) .house ≡ step (runFrom s cs .house) c .house

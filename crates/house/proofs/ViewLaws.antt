@@ -11,13 +11,12 @@ use borrow.Author.Tests.{eq-eqb, ne-eqb}
 use Rattle.sale.specs.Lists.{below}
 use Rattle.house.specs.Tickets.{Ticket}
 use Rattle.house.specs.Model.{isDrawing, nextGame}
-use Rattle.house.specs.Commands.{Command, Answer, blankTicket, ticketAt, hasTicket, codeOf, act, reply}
+use Rattle.house.specs.Commands.{Command, Answer, blankTicket, ticketAt, hasTicket, codeOf, act, reply, answerOf}
 use Rattle.house.specs.View.{ticketIn, ticketsOf, placeOf, RisingRows, view}
 use Rattle.house.specs.Parts.{Carried}
 use Rattle.house.specs.declared.state.House.{House}
 use Rattle.house.proofs.Ledger.{withLive}
 use Rattle.house.proofs.OneCommand.{refused-unchanged, accepted-done}
-use Rattle.house.proofs.Theorem.{reply-code}
 use Rattle.house.proofs.ReachedHouses.{Sure}
 use Rattle.house.proofs.RisingNumbers.{rising-at}
 use Rattle.house.proofs.RowLists.{length-table, getD-table}
@@ -47,14 +46,14 @@ module _ (h : House) (words marks : List ℕ) (c : Command) where
       (after : House) (words′ marks′ : List ℕ) (a : Answer)
       → codeOf (view h words marks) c ≡ 0
       → view after words′ marks′ ≡ act (view h words marks) c
-      → a ≡ reply (view h words marks) c
+      → a ≡ answerOf (reply (view h words marks) c)
       → Carried h words marks c after words′ marks′ a
   carried-done after words′ marks′ a coded house answer =
       let done = accepted-done (view h words marks) c coded in
       record {
         house = house ∙ sym (done .0);
         answer = answer ∙ sym (done .1);
-        refused = λ some. absurd (some (ap (λ a. a .code) answer ∙ reply-code (view h words marks) c));
+        refused = λ some. absurd (some (ap (λ a. a .code) answer));
       }
 
 -- ---- the lists of a view

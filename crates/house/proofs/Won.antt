@@ -13,11 +13,11 @@ use Rattle.sale.specs.Lists.{sum, keep, member}
 use Rattle.sale.specs.Checks.{Operands}
 use Rattle.house.specs.Tickets.{Ticket, runsIn, gamesLeft, isFinished, isLive, entryOf, withDue, withStop, withFinishedDay}
 use Rattle.house.specs.Model.{Model, fresh, nextGame}
-use Rattle.house.specs.Commands.{Command, open′, sell, cancel, ball, claim, expire, transfer, codeOf, reply, act, opened, sold, cancelled, claimed, expired, transferred, stillLive, changed, cancelStop, isExpired, ticketAt, soldTicket, cancelledTicket, settles, ballEntered, gameSettled, settlement, runningIn, awarded, finishedOn}
+use Rattle.house.specs.Commands.{Command, open′, sell, cancel, ball, claim, expire, transfer, codeOf, reply, opened, sold, cancelled, claimed, expired, transferred, stillLive, changed, cancelStop, isExpired, ticketAt, soldTicket, cancelledTicket, settles, ballEntered, gameSettled, settlement, runningIn, finishedOn}
 use Rattle.house.specs.Sheet.{Sheet, Line, playing, sheetSettlement}
 use Rattle.house.specs.Till.{tillOf}
 use Rattle.house.specs.Claims.{Log, Logged, sheetOf, nothing, issues, takesOff, draws, pays, effectOf, effectIn, Progress, nineteenIn, progressAfter, progressOf, gameOf, nextOf, Span, gamesOf, spanOf, awardAt, wonBy, paymentsAfter, payments}
-use Rattle.house.proofs.Ledger.{withLive, houseOf, ledgerAfter, lineOf, sheetFor, All, Orderly}
+use Rattle.house.proofs.Ledger.{houseOf, cancelledLedger, claimedLedger, expiredLedger, settledLedger, lineOf, sheetFor, All, Orderly}
 use Rattle.house.proofs.LiveTickets.{running-live, next-game-least}
 use Rattle.house.proofs.ListLaws.{All-map, All-append}
 use Rattle.house.proofs.MoneyLaws.{all-from}
@@ -143,22 +143,23 @@ module _ (m : Model) (log : Log) (told : Told m log) where
 
 -- ---- Open, Transfer and Expire
 
-abbrev After : Model → Log → Command → Type 0
-After m log c = sheetOf (logged c 0 ∷ log) ≡ sheetFor (ledgerAfter m c) → Told (ledgerAfter m c) (logged c 0 ∷ log)
+-- a ledger after a command, told where the sheet is its sheet
+abbrev After : Log → Command → Model → Type 0
+After log c after = sheetOf (logged c 0 ∷ log) ≡ sheetFor after → Told after (logged c 0 ∷ log)
 
-told-open : (m : Model) (log : Log) (d : ℕ) → Told m log → After m log (open′ d)
-unfolding act opened effectIn effectOf
-told-open m log d told sheet = told-unchanged m log (logged (open′ d) 0) refl (ledgerAfter m (open′ d)) refl refl sheet told
+pub told-open : (m : Model) (log : Log) (d : ℕ) → Told m log → After log (open′ d) (opened d m)
+unfolding opened effectIn effectOf
+told-open m log d told sheet = told-unchanged m log (logged (open′ d) 0) refl (opened d m) refl refl sheet told
 
-told-transfer : (m : Model) (log : Log) (j cents : ℕ) → Told m log → After m log (transfer j cents)
-unfolding act transferred effectIn effectOf
+pub told-transfer : (m : Model) (log : Log) (j cents : ℕ) → Told m log → After log (transfer j cents) (transferred j cents m)
+unfolding transferred effectIn effectOf
 told-transfer m log j cents told sheet =
-    told-unchanged m log (logged (transfer j cents) 0) refl (ledgerAfter m (transfer j cents)) refl refl sheet told
+    told-unchanged m log (logged (transfer j cents) 0) refl (transferred j cents m) refl refl sheet told
 
-told-expire : (m : Model) (log : Log) → Told m log → After m log expire
-unfolding act expired effectIn effectOf isExpired
+pub told-expire : (m : Model) (log : Log) → Told m log → After log expire (expiredLedger m)
+unfolding expired effectIn effectOf isExpired
 told-expire m log told sheet =
-    told-without m log (logged expire 0) refl (ledgerAfter m expire) refl sheet
+    told-without m log (logged expire 0) refl (expiredLedger m) refl sheet
     (All-map (TicketTold (m .game) log) (TicketTold (m .game) (logged expire 0 ∷ log)) (λ t. cond (isExpired m t) (withDue t 0) t)
     (λ t. due-moved (m .game) log (logged expire 0 ∷ log) t (isExpired m t) (same (t .number) .span)
     (λ late. eqb-true (gamesLeft (m .game) t) 0 (and-true _ _ late .0)) (λ kept. same (t .number))) (m .live) (told .tickets)) told
@@ -220,12 +221,12 @@ claim-ticket m log n t finished =
     (λ here. finished (eqb-true (t .number) n here))
     (λ other. untouched (t .number) log (logged (claim n) 0) (λ same. eqb-false (t .number) n other (sym same)))
 
-told-claim : (m : Model) (log : Log) (n : ℕ)
+pub told-claim : (m : Model) (log : Log) (n : ℕ)
     → Orderly m
     → Told m log
     → codeOf (houseOf m) (claim n) ≡ 0
-    → After m log (claim n)
-unfolding act claimed changed stillLive effectIn effectOf progressOf progressAfter
+    → After log (claim n) (claimedLedger n m)
+unfolding claimed changed stillLive effectIn effectOf progressOf progressAfter
 told-claim m log n orderly told accept sheet =
     record {
       sheet = sheet;
@@ -269,8 +270,8 @@ sell-ticket m log o told =
       dues = owed (sym won) (told .unissued number (omega arith));
     }
 
-told-sell : (m : Model) (log : Log) (o : Operands) → Orderly m → Told m log → After m log (sell o)
-unfolding act sold effectIn effectOf progressOf progressAfter payments paymentsAfter
+pub told-sell : (m : Model) (log : Log) (o : Operands) → Orderly m → Told m log → After log (sell o) (sold o m)
+unfolding sold effectIn effectOf progressOf progressAfter payments paymentsAfter
 told-sell m log o orderly told sheet =
     record {
       sheet = sheet;
@@ -352,8 +353,8 @@ cancel-ticket m log n t told f = go (eqb (t .number) n) refl
         (cancel-ticket-here m log e t told (ap takesOff (sym (eqb-true (t .number) n here))) f)
     go false other = follows-same (untouched (t .number) log e (λ same. eqb-false (t .number) n other (sym same))) f
 
-told-cancel : (m : Model) (log : Log) (n : ℕ) → Told m log → After m log (cancel n)
-unfolding act cancelled changed stillLive effectIn effectOf progressOf progressAfter payments paymentsAfter
+pub told-cancel : (m : Model) (log : Log) (n : ℕ) → Told m log → After log (cancel n) (cancelledLedger n m)
+unfolding cancelled changed stillLive effectIn effectOf progressOf progressAfter payments paymentsAfter
 told-cancel m log n told sheet =
     record {
       sheet = sheet;
@@ -370,16 +371,10 @@ told-cancel m log n told sheet =
 abbrev withBall : ℕ → Log → Log
 withBall b log = logged (ball b) 0 ∷ log
 
--- the ledger's tickets after the twentieth
-abbrev settledTickets : ℕ → Model → List Ticket
-settledTickets b m =
-    map (finishedOn (m .day) (m .game + 1)) (awarded (m .game) (settlement b (houseOf m) .awards) (m .live))
-
-told-early : (m : Model) (log : Log) (b : ℕ)
+pub told-early : (m : Model) (log : Log) (b : ℕ)
     → Told m log
     → settles b m ≡ false
-    → sheetOf (withBall b log) ≡ sheetFor (withLive (ballEntered b (houseOf m)) (m .live))
-    → Told (withLive (ballEntered b (houseOf m)) (m .live)) (withBall b log)
+    → After log (ball b) (ballEntered b m)
 unfolding ballEntered effectIn effectOf progressOf progressAfter payments paymentsAfter
 told-early m log b told early sheet =
     let size : length (m .balls ++ (b ∷ [])) ≡ length (m .balls) + 1 = length-append (m .balls) (b ∷ []) in
@@ -448,12 +443,11 @@ award-count m b =
     ∙ length-map (runningIn (houseOf m)) (entryOf (m .game))
     ∙ ap length (running-live (m .game) (m .live))
 
-told-settled : (m : Model) (log : Log) (b : ℕ)
+pub told-settled : (m : Model) (log : Log) (b : ℕ)
     → Orderly m
     → Told m log
     → settles b m ≡ true
-    → sheetOf (withBall b log) ≡ sheetFor (withLive (gameSettled b (houseOf m)) (settledTickets b m))
-    → Told (withLive (gameSettled b (houseOf m)) (settledTickets b m)) (withBall b log)
+    → After log (ball b) (settledLedger b m)
 unfolding gameSettled effectIn effectOf progressOf progressAfter payments paymentsAfter
 told-settled m log b orderly told last sheet =
     let size : length (m .balls ++ (b ∷ [])) ≡ length (m .balls) + 1 = length-append (m .balls) (b ∷ []) in
@@ -488,36 +482,3 @@ told-settled m log b orderly told last sheet =
     award n =
         ap (λ (s : Sheet). awardAt n (playing s) (sheetSettlement b s .awards)) (told .sheet)
         ∙ (λ i. awardAt n (playing-lines (m .game) (m .live) i) (settlements-alike m b orderly i .awards))
-
-told-ball : (m : Model) (log : Log) (b : ℕ)
-    → Orderly m
-    → Told m log
-    → After m log (ball b)
-unfolding act
-told-ball m log b orderly told = go (settles b m) refl
-  where
-    ledger : Bool → Model
-    ledger last =
-        withLive (cond last (gameSettled b (houseOf m)) (ballEntered b (houseOf m))) (cond last (settledTickets b m) (m .live))
-
-    go : (last : Bool)
-        → settles b m ≡ last
-        → sheetOf (withBall b log) ≡ sheetFor (ledger last)
-        → Told (ledger last) (withBall b log)
-    go true e = told-settled m log b orderly told e
-    go false e = told-early m log b told e
-
--- what the log tells is kept by every accepted command
-pub told-after : (m : Model) (log : Log) (c : Command)
-    → Orderly m
-    → Told m log
-    → codeOf (houseOf m) c ≡ 0
-    → sheetOf (logged c 0 ∷ log) ≡ sheetFor (ledgerAfter m c)
-    → Told (ledgerAfter m c) (logged c 0 ∷ log)
-told-after m log (open′ d) orderly told accept = told-open m log d told
-told-after m log (sell o) orderly told accept = told-sell m log o orderly told
-told-after m log (cancel n) orderly told accept = told-cancel m log n told
-told-after m log (ball b) orderly told accept = told-ball m log b orderly told
-told-after m log (claim n) orderly told accept = told-claim m log n orderly told accept
-told-after m log expire orderly told accept = told-expire m log told
-told-after m log (transfer j cents) orderly told accept = told-transfer m log j cents told

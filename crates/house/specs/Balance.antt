@@ -6,7 +6,7 @@ use mathlib.Core.List.{List, [], _∷_, _++_, map}
 use Rattle.house.specs.Model.{Model, fresh}
 use Rattle.house.specs.Commands.{Command, ball, claim, Answer, runningIn, step}
 use Rattle.house.specs.Till.{Figures, tillOf}
-use Rattle.house.specs.Sheet.{playing, sheetNumber, sheetCents}
+use Rattle.house.specs.Sheet.{playing, sheetReply}
 use Rattle.house.specs.Claims.{Log, sheetOf, payments, PlaysExactly, wonBy}
 
 -- a house after some commands, with the log of them
@@ -49,8 +49,8 @@ pub record TillBalances (cs : List Command) : Type 0 where
       (before after : List Command) (c : Command)
       → cs ≡ before ++ c ∷ after
       → answerAfter before c .code ≡ 0
-      → (answerAfter before c .number ≡ sheetNumber (sheetOf (run before .log)) c)
-      × (answerAfter before c .cents ≡ sheetCents (sheetOf (run before .log)) c)
+      → (answerAfter before c .number ≡ sheetReply (sheetOf (run before .log)) c .number)
+      × (answerAfter before c .cents ≡ sheetReply (sheetOf (run before .log)) c .cents)
   -- "The twentieth ball settles each way of each live ticket that runs in that game": in the house and on the sheet, the tickets that play are exactly
   -- those whose span, told from the commands and their codes, has the game
   pub plays :

@@ -16,7 +16,7 @@ use Rattle.sale.specs.Kinds.{jackpotBy}
 use Rattle.prizes.specs.Expiry.{hasExpired}
 use Rattle.prizes.specs.declared.jackpot.Jackpot.{Jackpot}
 pub use Rattle.house.specs.declared.answer.Answer.{Answer}
-pub use Rattle.house.specs.Command.{Command, open′, sell, cancel, ball, claim, expire, transfer}
+pub use Rattle.house.specs.Command.{Command, open′, sell, cancel, ball, claim, expire, transfer, Reply, replies}
 use Rattle.house.specs.Tickets.{Ticket, termsOf, runsIn, isFinished, isLive, paidStakes, entryOf, kenoToGoBegun, withDue, withStop, withFinishedDay}
 use Rattle.house.specs.Model.{Model, Counters, ticketLimit, gameLimit, liveLimit, isDrawing, nextGame, withTickets, withMoney, withTaken, withSeeds, withPaid, withRefunded, withUnclaimed, withTransferred, withGained, withLost}
 
@@ -242,10 +242,7 @@ transferred j cents m =
     (cond (eqb j 6) (m .eight) (withPrimary (m .eight) (m .eight .primary + cents)))
     (withTransferred cents (m .counters))
 
--- ---- the answer's number and cents
-
-abbrev pub replies : ℕ → ℕ → Answer
-replies n cents = record { code = 0; number = n; cents = cents }
+-- ---- each command: what it does, and the number and cents of its answer
 
 unfoldable pub act : Model → Command → Model
 act m (open′ d) = opened d m
@@ -256,7 +253,7 @@ act m (claim n) = claimed n m
 act m expire = expired m
 act m (transfer j cents) = transferred j cents m
 
-unfoldable pub reply : Model → Command → Answer
+unfoldable pub reply : Model → Command → Reply
 reply m (open′ d) = replies d 0
 reply m (sell o) = replies (m .issued + 1) (chargeOf o)
 reply m (cancel n) = replies n (refundOf n m)
@@ -268,6 +265,10 @@ reply m (transfer j cents) = replies j (jackpotFor j m .primary + cents)
 
 -- ---- one command
 
+-- an accepted command answers 0 and its reply
+abbrev pub answerOf : Reply → Answer
+answerOf r = record { code = 0; number = r .number; cents = r .cents }
+
 pub record Outcome : Type 0 where
   pub house : Model
   pub answer : Answer
@@ -276,5 +277,5 @@ unfoldable pub step : Model → Command → Outcome
 step m c =
     let code = codeOf m c in
     cond (eqb code 0)
-    (record { house = act m c; answer = reply m c })
+    (record { house = act m c; answer = answerOf (reply m c) })
     (record { house = m; answer = record { code = code; number = 0; cents = 0 } })

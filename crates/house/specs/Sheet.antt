@@ -17,7 +17,7 @@ use Rattle.prizes.specs.Jackpots.{guaranteeOfSix, guaranteeOfEight, freshSeeds,
 use Rattle.prizes.specs.Settle.{Entry, Settled, settle}
 use Rattle.prizes.specs.Expiry.{hasExpired}
 use Rattle.prizes.specs.declared.jackpot.Jackpot.{Jackpot}
-use Rattle.house.specs.Command.{Command, open′, sell, cancel, ball, claim, expire, transfer}
+use Rattle.house.specs.Command.{Command, open′, sell, cancel, ball, claim, expire, transfer, Reply, replies}
 use Rattle.house.specs.Figures.{Figures}
 
 pub record Line : Type 0 where
@@ -269,20 +269,12 @@ unfoldable pub feed : Sheet → Command → ℕ → Sheet
 feed s c code = cond (eqb code 0) (moved c s) s
 
 -- "Its answers are those of the table above, from what the sheet itself holds; Expire's number is how many dues it moved."
-unfoldable pub sheetNumber : Sheet → Command → ℕ
-sheetNumber s (open′ d) = d
-sheetNumber s (sell o) = length (s .lines) + 1
-sheetNumber s (cancel n) = n
-sheetNumber s (ball b) = length (s .balls) + 1
-sheetNumber s (claim n) = n
-sheetNumber s expire = length (lateDues s)
-sheetNumber s (transfer j cents) = j
-
-unfoldable pub sheetCents : Sheet → Command → ℕ
-sheetCents s (open′ d) = 0
-sheetCents s (sell o) = chargeOf o
-sheetCents s (cancel n) = totalAt n (takenOff s) (s .lines)
-sheetCents s (ball b) = cond (twentieth s) (sheetSettlement b s .prizes + sheetSettlement b s .shares) 0
-sheetCents s (claim n) = totalAt n (λ l. l .due) (s .lines)
-sheetCents s expire = sum (lateDues s)
-sheetCents s (transfer j cents) = cond (eqb j 6) (s .six .primary) (s .eight .primary) + cents
+unfoldable pub sheetReply : Sheet → Command → Reply
+sheetReply s (open′ d) = replies d 0
+sheetReply s (sell o) = replies (length (s .lines) + 1) (chargeOf o)
+sheetReply s (cancel n) = replies n (totalAt n (takenOff s) (s .lines))
+sheetReply s (ball b) =
+    replies (length (s .balls) + 1) (cond (twentieth s) (sheetSettlement b s .prizes + sheetSettlement b s .shares) 0)
+sheetReply s (claim n) = replies n (totalAt n (λ l. l .due) (s .lines))
+sheetReply s expire = replies (length (lateDues s)) (sum (lateDues s))
+sheetReply s (transfer j cents) = replies j (cond (eqb j 6) (s .six .primary) (s .eight .primary) + cents)

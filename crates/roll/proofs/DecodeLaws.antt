@@ -1,5 +1,5 @@
--- What the decoder answers: where it stops, what a whole command is, and that it is the command that its bytes stand for. What holds of each row of the
--- table holds of the row that a byte has.
+-- What the decoder answers: where it stops, what a whole command is, and that it is the command that its bytes stand for. What is shown of each row of
+-- the table, in one list of records (`rows-hold`), holds of the row that a byte has.
 use Prim.Native.Nat.{ℕ, suc, _+_, _-_, _≤_, _<_}
 use native.Mathlib.Numerals.{add-one}
 use native.Mathlib.Omega.{arith}
@@ -11,14 +11,16 @@ use lib.ListN.{length, getD, take, drop, length-drop}
 use lib.Seq.{drop-cons, drop-drop}
 use borrow.Author.Tests.{ltb-false, lt-ltb, le-ltb, ne-eqb, eqb-true}
 use Rattle.numbers.specs.Bytes.{numberOf}
-use Rattle.numbers.proofs.ByteLaws.{part-of-first, byte-of-part}
+use Rattle.numbers.proofs.ByteLaws.{part-of-first, byte-of-part, two-bytes-below}
+use Rattle.house.specs.Commands.{open′}
 use Rattle.house.proofs.Ledger.{All}
+use Rattle.house.proofs.EachCommand.{ShortDay}
 use Rattle.commands.specs.Meant.{meant}
 use Rattle.commands.specs.declared.command.Command.{Command}
-use Rattle.roll.specs.Decode.{CommandRow, commandRows, CommandByte, unknown, known, rowAmong, commandRow, saleIn, commandOf}
-use Rattle.roll.specs.Orders.{operandsBy, operandsFor, operandBytes, decodedBy, lentMarks, decodedAt}
+use Rattle.roll.specs.Decode.{CommandRow, commandRows, CommandByte, unknown, known, rowAmong, commandRow, saleIn, commandOf, byteOf}
+use Rattle.roll.specs.Orders.{operandsBy, operandLength, operandBytes, decodedBy, lentMarks, decodedAt}
 use Rattle.roll.specs.declared.decode.Decoded.the-variants.{Whole, Stop}
-use Rattle.roll.specs.declared.decode.Operands.the-variants.{Bytes, Unknown}
+use Rattle.roll.specs.declared.decode.OperandLength.the-variants.{Bytes, Unknown}
 
 -- ---- the table of commands
 
@@ -41,11 +43,11 @@ other-row byte none =
     )
 
 -- what the code is told of a byte's operands
-pub operands-told : (looked : CommandByte) (size : ℕ) → operandsFor looked ≡ Bytes size → operandsBy looked ≡ size
+pub operands-told : (looked : CommandByte) (size : ℕ) → operandLength looked ≡ Bytes size → operandsBy looked ≡ size
 operands-told unknown size e = let z : _≡_ {A = ℕ} 0 1 = cc in absurd (omega arith)
 operands-told (known row) size e = cc
 
-pub unknown-told : (looked : CommandByte) → operandsFor looked ≡ Unknown → looked ≡ unknown
+pub unknown-told : (looked : CommandByte) → operandLength looked ≡ Unknown → looked ≡ unknown
 unknown-told unknown e = refl
 unknown-told (known row) e = let z : _≡_ {A = ℕ} 0 1 = cc in absurd (omega arith)
 
@@ -66,18 +68,79 @@ found P (first ∷ rows) (this, later) byte row e = go (eqb byte (first .byte)) 
         subst (λ (x : CommandRow). (x .byte ≡ byte) × P x) r (sym (eqb-true byte (first .byte) p), this)
     go false further p q = further q
 
-pub row-found : (P : CommandRow → Type 0) → All P commandRows → (byte : ℕ) (row : CommandRow) → commandRow byte ≡ known row → (row .byte ≡ byte) × P row
-row-found P each = found P commandRows each
+-- a list of bytes
+abbrev pub Small : List ℕ → Type 0
+Small l = (i : ℕ) → getD l i 0 < 256
 
--- a decoded command, with Sell's marks beside it, is the command that the bytes stand for
-rows-meant : All (λ row. (bytes : List ℕ) → meant (row .decoded bytes) (lentMarks (row .byte) bytes) ≡ commandOf row bytes) commandRows
+-- what is shown of a row
+record RowHolds (row : CommandRow) : Type 0 where
+  -- a decoded command, with Sell's marks beside it, is the command that the bytes stand for
+  means : (bytes : List ℕ) → meant (row .decoded bytes) (lentMarks (row .byte) bytes) ≡ commandOf row bytes
+  -- the command's byte is the row's
+  back : (bytes : List ℕ) → byteOf (commandOf row bytes) ≡ row .byte
+  -- if it has a day, the day has two bytes
+  short : (rest : List ℕ) → Small rest → ShortDay (commandOf row (take (row .operands) rest))
+
+-- a row whose command is not Open
+plain-row :
+    (row : CommandRow)
+    → ((bytes : List ℕ) → meant (row .decoded bytes) (lentMarks (row .byte) bytes) ≡ commandOf row bytes)
+    → ((bytes : List ℕ) → byteOf (commandOf row bytes) ≡ row .byte)
+    → (row .byte ≡ 1 → ⊥)
+    → RowHolds row
+plain-row row means back other =
+    record {
+      means = means;
+      back = back;
+      short = λ rest small d e. absurd (other (sym (back (take (row .operands) rest)) ∙ ap byteOf e));
+    }
+
+-- Open's day
+two-byte-day : (rest : List ℕ) → Small rest → ShortDay (open′ (numberOf (take 2 rest)))
+two-byte-day rest small d e =
+    let same : numberOf (take 2 rest) ≡ d = cc in
+    subst (λ k. k < 65536) same (two-bytes-below rest small)
+
+rows-hold : All RowHolds commandRows
 unfolding commandRows
-rows-meant = (λ _. refl, (λ _. refl, (λ _. refl, (λ _. refl, (λ _. refl, (λ _. refl, (λ _. refl, tt)))))))
+rows-hold = (
+  record { means = λ _. refl; back = λ _. refl; short = two-byte-day },
+  (
+    plain-row _ (λ _. refl) (λ _. refl) (omega arith),
+    (
+      plain-row _ (λ _. refl) (λ _. refl) (omega arith),
+      (
+        plain-row _ (λ _. refl) (λ _. refl) (omega arith),
+        (
+          plain-row _ (λ _. refl) (λ _. refl) (omega arith),
+          (
+            plain-row _ (λ _. refl) (λ _. refl) (omega arith),
+            (
+              plain-row _ (λ _. refl) (λ _. refl) (omega arith),
+              tt,
+            ),
+          ),
+        ),
+      ),
+    ),
+  ),
+)
+
+row-found : (byte : ℕ) (row : CommandRow) → commandRow byte ≡ known row → (row .byte ≡ byte) × RowHolds row
+row-found = found RowHolds commandRows rows-hold
 
 pub order-meant : (byte : ℕ) (row : CommandRow) (bytes : List ℕ) → commandRow byte ≡ known row → meant (row .decoded bytes) (lentMarks byte bytes) ≡ commandOf row bytes
 order-meant byte row bytes e =
-    let here = row-found (λ row. (bytes : List ℕ) → meant (row .decoded bytes) (lentMarks (row .byte) bytes) ≡ commandOf row bytes) rows-meant byte row e in
-    ap (λ b. meant (row .decoded bytes) (lentMarks b bytes)) (sym (here .0)) ∙ here .1 bytes
+    let here = row-found byte row e in
+    ap (λ b. meant (row .decoded bytes) (lentMarks b bytes)) (sym (here .0)) ∙ here .1 .means bytes
+
+pub byte-back : (byte : ℕ) (row : CommandRow) (bytes : List ℕ) → commandRow byte ≡ known row → byteOf (commandOf row bytes) ≡ byte
+byte-back byte row bytes e =
+    let here = row-found byte row e in
+    here .1 .back bytes ∙ here .0
+
+pub short-day : (byte : ℕ) (row : CommandRow) (rest : List ℕ) → commandRow byte ≡ known row → Small rest → ShortDay (commandOf row (take (row .operands) rest))
+short-day byte row rest e small = row-found byte row e .1 .short rest small
 
 -- ---- Sell's operands
 

@@ -1,25 +1,23 @@
 -- Demand 3 over rolls, proved: `rolls-balance`. Reading a roll is running the commands that it answers, each on the house that the last one
 -- left, and the records in the book read back as their answers; so rolls one after another are one list, over which the till balances.
-use Prim.Native.Nat.{ℕ, zero, suc, _+_, _<_}
+use Prim.Native.Nat.{ℕ, zero, suc, _+_}
 use native.Mathlib.Omega.{arith}
 use mathlib.Core.Path.{_≡_, refl, sym, ap, ap₂, subst, _∙_}
 use mathlib.Core.Bool.{Bool, true, false, cond}
 use mathlib.Core.List.{List, [], _∷_, _++_}
 use lib.Dec.{ltb}
-use lib.ListN.{length, getD, take, drop}
+use lib.ListN.{length, take, drop}
 use lib.Seq.{getD-drop}
 use Rattle.house.specs.Model.{Model, fresh}
 use Rattle.house.specs.Commands.{Command, step}
 use Rattle.house.specs.Balance.{State, next, runFrom, Reached}
-use Rattle.house.proofs.Ledger.{All}
 use Rattle.house.proofs.Theorem.{till-balances, reached-step}
-use Rattle.roll.specs.Decode.{CommandRow, commandRows, CommandByte, unknown, known, commandRow, commandOf, byteOf, recordOf}
+use Rattle.roll.specs.Decode.{CommandRow, CommandByte, unknown, known, commandRow, commandOf, byteOf, recordOf}
 use Rattle.roll.specs.Reading.{Reading, stopped, turnAt, readTurns, readRoll}
 use Rattle.roll.specs.Balance.{Sitting, houseAfter, answeredIn, entriesTo, entriesFrom, entriesIn, RollsBalance}
-use Rattle.numbers.proofs.ByteLaws.{two-bytes-below}
 use Rattle.roll.proofs.RecordLaws.{entry-back, record-passed}
-use Rattle.roll.proofs.DecodeLaws.{row-found}
-use Rattle.roll.proofs.AnswerBounds.{ShortDay, answer-shown}
+use Rattle.roll.proofs.DecodeLaws.{Small, byte-back, short-day}
+use Rattle.roll.proofs.AnswerBounds.{answer-shown}
 use Rattle.roll.proofs.ReadingLaws.{answeredBy}
 
 -- ---- lists of commands
@@ -49,10 +47,6 @@ entries-append m (c ∷ cs) ds =
     ap (λ later. record { byte = byteOf c; answer = step m c .answer } ∷ later) (entries-append (step m c .house) cs ds)
 
 -- ---- one roll
-
--- a list of bytes
-abbrev Small : List ℕ → Type 0
-Small l = (i : ℕ) → getD l i 0 < 256
 
 -- a turn either stops or answers one command
 by-turn :
@@ -87,25 +81,6 @@ pub read-reached : (m : Model) (roll book : List ℕ) → Reached m → Reached 
 read-reached m roll book reached =
     let turns = length roll + 1 in
     subst Reached (sym (read-house turns m roll book)) (end-reached m (readTurns turns m roll book .commands) reached)
-
--- a command's byte is that of its row
-rows-back : All (λ row. (bytes : List ℕ) → byteOf (commandOf row bytes) ≡ row .byte) commandRows
-unfolding commandRows
-rows-back = (λ _. refl, (λ _. refl, (λ _. refl, (λ _. refl, (λ _. refl, (λ _. refl, (λ _. refl, tt)))))))
-
-byte-back : (byte : ℕ) (row : CommandRow) (bytes : List ℕ) → commandRow byte ≡ known row → byteOf (commandOf row bytes) ≡ byte
-byte-back byte row bytes e =
-    let here = row-found (λ row. (bytes : List ℕ) → byteOf (commandOf row bytes) ≡ row .byte) rows-back byte row e in
-    here .1 bytes ∙ here .0
-
--- of the commands only Open has a day, of two bytes
-rows-short : All (λ row. (rest : List ℕ) → Small rest → ShortDay (commandOf row (take (row .operands) rest))) commandRows
-unfolding commandRows
-rows-short = (two-bytes-below, (λ _ _. tt, (λ _ _. tt, (λ _ _. tt, (λ _ _. tt, (λ _ _. tt, (λ _ _. tt, tt)))))))
-
-short-day : (byte : ℕ) (row : CommandRow) (rest : List ℕ) → commandRow byte ≡ known row → Small rest → ShortDay (commandOf row (take (row .operands) rest))
-short-day byte row rest e small =
-    row-found (λ row. (rest : List ℕ) → Small rest → ShortDay (commandOf row (take (row .operands) rest))) rows-short byte row e .1 rest small
 
 pub read-entries :
     (turns : ℕ) (m : Model) (roll book : List ℕ)

@@ -12,8 +12,8 @@ use Rattle.roll.specs.Decode.{marksIn, CommandByte, unknown, known, comm
 use Rattle.roll.specs.Reading.{Reading, readRoll, AllRefused}
 use Rattle.roll.specs.declared.decode.Decoded.{Decoded}
 use Rattle.roll.specs.declared.decode.Decoded.the-variants.{Whole, Stop}
-use Rattle.roll.specs.declared.decode.Operands.{Operands}
-use Rattle.roll.specs.declared.decode.Operands.the-variants.{Bytes, Unknown}
+use Rattle.roll.specs.declared.decode.OperandLength.{OperandLength}
+use Rattle.roll.specs.declared.decode.OperandLength.the-variants.{Bytes, Unknown}
 use Rattle.roll.specs.declared.reader.Report.{Report}
 use Rattle.roll.specs.declared.reader.Verdict.{Verdict}
 use Rattle.roll.specs.declared.reader.Verdict.the-variants.{Accepted, Refused}
@@ -27,9 +27,9 @@ abbrev pub operandBytes : ℕ → ℕ
 operandBytes byte = operandsBy (commandRow byte)
 
 -- the same as the code has it
-abbrev pub operandsFor : CommandByte → Operands
-operandsFor unknown = Unknown
-operandsFor (known row) = Bytes (row .operands)
+abbrev pub operandLength : CommandByte → OperandLength
+operandLength unknown = Unknown
+operandLength (known row) = Bytes (row .operands)
 
 -- a command of so many bytes from its row and what follows its byte; an unknown byte is none
 abbrev pub decodedBy : CommandByte → List ℕ → ℕ → Decoded

@@ -7,7 +7,7 @@ ghost use mathlib.Core.Path.{_≡_};
 ghost use Prim.Native.Nat.{_+_, _≤_};
 ghost use lib.ListN.{length, take, drop};
 ghost use Rattle.roll.specs.Decode.{saleIn, commandRow};
-ghost use Rattle.roll.specs.Orders.{operandsFor, operandBytes, decodedBy, decodedAt};
+ghost use Rattle.roll.specs.Orders.{operandLength, operandBytes, decodedBy, decodedAt};
 
 // A whole command with its length, its command byte included; or the stop code where there is none. Sell's marks stay in the roll.
 pub enum Decoded {
@@ -31,23 +31,23 @@ fn sale_at(roll: &[u8], at: usize) -> Sale
 }
 
 // How many operand bytes follow a command byte, or that the byte is unknown.
-enum Operands {
+enum OperandLength {
     Bytes(usize),
     Unknown,
 }
 
-fn operand_bytes(byte: u8) -> Operands
-    ensures { λ r. ⌜ r ≡ operandsFor (commandRow byte) ⌝ }
+fn operand_bytes(byte: u8) -> OperandLength
+    ensures { λ r. ⌜ r ≡ operandLength (commandRow byte) ⌝ }
 {
     match byte {
-        1 => Operands::Bytes(2),
-        2 => Operands::Bytes(88),
-        3 => Operands::Bytes(4),
-        4 => Operands::Bytes(1),
-        5 => Operands::Bytes(4),
-        6 => Operands::Bytes(0),
-        7 => Operands::Bytes(5),
-        _ => Operands::Unknown,
+        1 => OperandLength::Bytes(2),
+        2 => OperandLength::Bytes(88),
+        3 => OperandLength::Bytes(4),
+        4 => OperandLength::Bytes(1),
+        5 => OperandLength::Bytes(4),
+        6 => OperandLength::Bytes(0),
+        7 => OperandLength::Bytes(5),
+        _ => OperandLength::Unknown,
     }
 }
 
@@ -76,7 +76,7 @@ pub(crate) fn decode(roll: &[u8], at: usize) -> Decoded
         return Decoded::Stop(0);
     }
     let byte = roll[at];
-    let Operands::Bytes(size) = operand_bytes(byte) else {
+    let OperandLength::Bytes(size) = operand_bytes(byte) else {
         return Decoded::Stop(1);
     };
     let from = at + 1;

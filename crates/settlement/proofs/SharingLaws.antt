@@ -6,7 +6,7 @@ use native.Mathlib.Numerals.{add-one}
 use native.Mathlib.Omega.{arith}
 use mathlib.Core.Path.{_≡_, refl, sym, ap, subst, subst⁻¹, _∙_}
 use mathlib.Core.Bool.{Bool, true, false, cond}
-use mathlib.Core.List.{List, [], _∷_, _++_, map, map-map, zipWith}
+use mathlib.Core.List.{List, [], _∷_, _++_, map, map-map, map-append, zipWith}
 use lib.Dec.{eqb, ltb}
 use lib.ListN.{length, take, set, getD, length-map}
 use lib.Seq.{getD-take}
@@ -35,7 +35,7 @@ use Rattle.settlement.specs.declared.shares.Part.{Part}
 use Rattle.settlement.specs.declared.figures.Stakes.{Stakes}
 use Rattle.settlement.specs.Sharing.{paidAt, paidIn, stakesAt, stakesIn, winnerFrom, winnerAt, winnersIn, stakesOf, Entered, Shareable}
 use Rattle.house.proofs.Ledger.{Kept}
-use Rattle.house.proofs.ListLaws.{cond-either, map-append}
+use Rattle.house.proofs.ListLaws.{cond-either}
 use Rattle.house.proofs.RisingNumbers.{all-at}
 use Rattle.house.proofs.ReachedHouses.{reached-sure}
 use Rattle.settlement.proofs.SpreadLaws.{spread-runs, spread-rests, spread-entries, spread-added, sum-spread}

@@ -1,7 +1,7 @@
 -- Laws of tables: a table by its places, the sum of its first figures, and a table whose first places hold figures spread over tickets.
 use Prim.Native.Nat.{ℕ, zero, suc, _+_, _≤_, _<_}
 use mathlib.Core.Path.{_≡_, refl, sym, ap, ap₂, _∙_, subst}
-use mathlib.Core.List.{List, [], _∷_, _++_, map}
+use mathlib.Core.List.{List, [], _∷_, _++_, map, map-append}
 use native.Mathlib.Nat.{add-zero}
 use native.Mathlib.Numerals.{add-one}
 use native.Mathlib.Omega.{arith}
@@ -10,7 +10,6 @@ use lib.Seq.{ext-getD, getD-take, take-take, take-suc, length-take-le}
 use Rattle.sale.specs.Lists.{sum, below, keep}
 use Rattle.house.specs.Tickets.{Ticket, runsIn}
 use Rattle.settlement.specs.Settling.{spread}
-use Rattle.house.proofs.ListLaws.{map-append}
 use Rattle.house.proofs.MoneyLaws.{sum-append}
 use Rattle.house.proofs.RowLists.{length-table, getD-table}
 use Rattle.settlement.proofs.SpreadLaws.{length-spread, sum-spread}

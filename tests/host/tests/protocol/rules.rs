@@ -15,7 +15,7 @@ pub fn limits(document: &Document) -> Checked {
         ("live tickets", House::MOST_LIVE_TICKETS as i128),
         ("last ticket number", i128::from(House::LAST_TICKET)),
         ("last game", i128::from(House::LAST_GAME)),
-        ("days to claim", i128::from(House::CLAIM_DAYS)),
+        ("days after which a finished ticket expires", i128::from(House::CLAIM_DAYS)),
         ("dearest ticket, cents", MOST_CHARGE),
         ("most that a way wins, jackpot tickets aside, cents", CAP),
         ("least major prize, cents", MAJOR),

@@ -3,7 +3,7 @@ use native.Mathlib.Omega.{arith}
 use mathlib.Core.Path.{sym, ap, _∙_}
 use borrow.Author.Needs.{needs}
 use Prim.Native.Nat.{_+_}
-use Rattle.house.specs.Commands.{ball, replies}
+use Rattle.house.specs.Commands.{ball, replies, answerOf}
 use Rattle.house.specs.View.{view}
 use Rattle.house.proofs.ViewLaws.{carried-done, balls-count}
 use Rattle.draw.proofs.BallLaws.{entered-view, early-act}
@@ -34,7 +34,7 @@ returns c = λ words marks coded.
     (ap (λ h. view h words marks) (c .accepted .ensures .0)
     ∙ entered-view house words marks number (made .balls-with .result) (made .balls-with .ensures .1 words marks)
     ∙ sym (early .0))
-    (c .accepted .ensures .1 ∙ ap (λ n. replies (n + 1) 0) (sym in-now) ∙ sym (early .1))
+    (c .accepted .ensures .1 ∙ ap (λ n. answerOf (replies (n + 1) 0)) (sym in-now) ∙ ap answerOf (sym (early .1)))
 
 pub add-ball-spec : {M : Type 1} → statement M
 add-ball-spec =

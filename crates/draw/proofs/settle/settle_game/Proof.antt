@@ -10,7 +10,7 @@ use Rattle.prizes.specs.declared.draw.Draw.{Draw}
 use Rattle.house.specs.Tickets.{Ticket}
 use Rattle.house.specs.Model.{Model}
 use Rattle.house.specs.declared.state.Counters.{Counters}
-use Rattle.house.specs.Commands.{ball, replies, settledBy, settlement, gameEnded}
+use Rattle.house.specs.Commands.{ball, replies, answerOf, settledBy, settlement, gameEnded}
 use Rattle.house.specs.View.{view}
 use Rattle.settlement.specs.Settling.{SettledAs}
 use Rattle.settlement.proofs.GameLaws.{awards-fit}
@@ -126,7 +126,7 @@ returns c = λ b d.
     (ap (λ h. view h rows marks) (c .accepted .ensures .0 ∙ c .before .with-settlement .ensures)
     ∙ settled-view (args .house) (over .end-game .result) (args .rows .now) (args .marks .now) rows marks b (awards found) (found .settle .result) f (ended over b d)
     ∙ sym (last .0))
-    (c .accepted .ensures .1 ∙ ap₂ (λ (p q : ℕ). replies 20 (p + q)) (f .prizes) (f .shares) ∙ sym (settled-reply (model s) b) ∙ sym (last .1))
+    (c .accepted .ensures .1 ∙ ap answerOf (ap₂ (λ (p q : ℕ). replies 20 (p + q)) (f .prizes) (f .shares) ∙ sym (settled-reply (model s) b) ∙ sym (last .1)))
 
 pub settle-game-spec : {M : Type 1} → statement M
 settle-game-spec =

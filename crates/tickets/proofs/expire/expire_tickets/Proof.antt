@@ -6,7 +6,7 @@ use mathlib.Core.Path.{_≡_, ap, ap₂, _∙_}
 use lib.ListN.{length}
 use borrow.Author.Needs.{needs}
 use Rattle.house.specs.Model.{Model}
-use Rattle.house.specs.Commands.{expire, replies, act, reply, expiring}
+use Rattle.house.specs.Commands.{expire, replies, answerOf, act, reply, expiring}
 use Rattle.house.specs.Till.{tillOf}
 use Rattle.house.specs.View.{view}
 use Rattle.house.proofs.ReachedHouses.{Sure, reached-sure}
@@ -85,7 +85,7 @@ returns-2 c =
     (expire-open (entry start) (swept .before .before .before .if1 .left))
     (ap (λ h. view h words′ marks′) (c .accepted .ensures .0)
     ∙ house-expired (args .house) words marks (sure start) words′ marks′ (sweep .left) (sweep .cents) done)
-    (c .accepted .ensures .1 ∙ ap₂ replies gone (done .dues))
+    (c .accepted .ensures .1 ∙ ap answerOf (ap₂ replies gone (done .dues)))
 
 pub expire-tickets-spec : {M : Type 1} → statement M
 expire-tickets-spec =

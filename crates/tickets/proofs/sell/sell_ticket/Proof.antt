@@ -7,7 +7,7 @@ use borrow.Author.Needs.{needs}
 use Rattle.sale.specs.Checks.{Operands, operandsOf, acceptedQuote}
 use Rattle.sale.proofs.CheckLaws.{acceptance}
 use Rattle.house.specs.Model.{Model, liveLimit}
-use Rattle.house.specs.Commands.{sell, codeOf, act, reply, replies}
+use Rattle.house.specs.Commands.{sell, codeOf, act, reply, replies, answerOf}
 use Rattle.house.specs.Till.{tillOf}
 use Rattle.house.specs.View.{view}
 use Rattle.house.proofs.Refusals.{SellAccepted, sell-accepted, OperandsAccepted, operands-accepted}
@@ -145,7 +145,7 @@ returns-3 c =
     carried-done (args .house) words marks (sell (operands start)) _ words′ marks′ _ (passed here)
     (ap (λ h. view h words′ marks′) (c .accepted .ensures .0)
     ∙ house-sold (args .house) words marks (operands start) _ words′ marks′ _ (room here) charged (appended .append-ticket .ensures) (made .sold-row .ensures words marks (args .from .now) (record { quote = here .before .before .quote-for .ensures; passed = allowed here .checked })))
-    (c .accepted .ensures .1 ∙ ap (replies (args .house .issued + 1)) charged)
+    (c .accepted .ensures .1 ∙ ap (λ cents. answerOf (replies (args .house .issued + 1) cents)) charged)
 
 pub sell-ticket-spec : {M : Type 1} → statement M
 sell-ticket-spec =
