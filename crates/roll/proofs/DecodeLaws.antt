@@ -5,7 +5,7 @@ use native.Mathlib.Numerals.{add-one}
 use native.Mathlib.Omega.{arith}
 use mathlib.Core.Path.{_≡_, refl, sym, ap, subst, _∙_}
 use mathlib.Core.Bool.{Bool, true, false, cond}
-use mathlib.Core.List.{List, [], _∷_}
+use mathlib.Core.List.{List, [], _∷_, map}
 use lib.Dec.{ltb, eqb}
 use lib.ListN.{length, getD, take, drop, length-drop}
 use lib.Seq.{drop-cons, drop-drop}
@@ -24,23 +24,23 @@ use Rattle.roll.specs.declared.decode.OperandLength.the-variants.{Bytes,
 
 -- ---- the table of commands
 
--- a byte that is none of the table's
-abbrev pub Other : ℕ → Type 0
-Other byte =
-    ((((((Unit {0} × (byte ≡ 1 → ⊥)) × (byte ≡ 2 → ⊥)) × (byte ≡ 3 → ⊥)) × (byte ≡ 4 → ⊥)) × (byte ≡ 5 → ⊥)) × (byte ≡ 6 → ⊥)) × (byte ≡ 7 → ⊥)
+-- a byte that is none of some, and what is known so far, as a match has it in its last arm
+abbrev NoneOf : ℕ → Type 0 → List ℕ → Type 0
+NoneOf byte so-far [] = so-far
+NoneOf byte so-far (b ∷ bs) = NoneOf byte (so-far × (byte ≡ b → ⊥)) bs
 
-pub other-row : (byte : ℕ) → Other byte → commandRow byte ≡ unknown
-unfolding commandRows rowAmong
-other-row byte none =
-    rw (
-      ne-eqb byte 1 (none .0 .0 .0 .0 .0 .0 .1),
-      ne-eqb byte 2 (none .0 .0 .0 .0 .0 .1),
-      ne-eqb byte 3 (none .0 .0 .0 .0 .1),
-      ne-eqb byte 4 (none .0 .0 .0 .1),
-      ne-eqb byte 5 (none .0 .0 .1),
-      ne-eqb byte 6 (none .0 .1),
-      ne-eqb byte 7 (none .1),
-    )
+none-among :
+    (byte : ℕ) (so-far : Type 0) (rows : List CommandRow)
+    → NoneOf byte so-far (map (λ row. row .byte) rows)
+    → so-far × (rowAmong rows byte ≡ unknown)
+unfolding rowAmong
+none-among byte so-far [] none = (none, refl)
+none-among byte so-far (row ∷ rows) none =
+    let later = none-among byte (so-far × (byte ≡ row .byte → ⊥)) rows none in
+    (later .0 .0, rw (ne-eqb byte (row .byte) (later .0 .1)) (later .1))
+
+pub other-row : (byte : ℕ) → NoneOf byte (Unit {0}) (map (λ row. row .byte) commandRows) → commandRow byte ≡ unknown
+other-row byte none = none-among byte (Unit {0}) commandRows none .1
 
 -- what the code is told of a byte's operands
 pub operands-told : (looked : CommandByte) (size : ℕ) → operandLength looked ≡ Bytes size → operandsBy looked ≡ size
@@ -101,30 +101,22 @@ two-byte-day rest small d e =
     let same : numberOf (take 2 rest) ≡ d = cc in
     subst (λ k. k < 65536) same (two-bytes-below rest small)
 
+infixr 30 _and_
+-- of the first row, and of those below it
+_and_ : {A B : Type 0} → A → B → A × B
+this and later = (this, later)
+
 rows-hold : All RowHolds commandRows
 unfolding commandRows
-rows-hold = (
-  record { means = λ _. refl; back = λ _. refl; short = two-byte-day },
-  (
-    plain-row _ (λ _. refl) (λ _. refl) (omega arith),
-    (
-      plain-row _ (λ _. refl) (λ _. refl) (omega arith),
-      (
-        plain-row _ (λ _. refl) (λ _. refl) (omega arith),
-        (
-          plain-row _ (λ _. refl) (λ _. refl) (omega arith),
-          (
-            plain-row _ (λ _. refl) (λ _. refl) (omega arith),
-            (
-              plain-row _ (λ _. refl) (λ _. refl) (omega arith),
-              tt,
-            ),
-          ),
-        ),
-      ),
-    ),
-  ),
-)
+rows-hold =
+    record { means = λ _. refl; back = λ _. refl; short = two-byte-day }
+    and plain-row _ (λ _. refl) (λ _. refl) (omega arith)
+    and plain-row _ (λ _. refl) (λ _. refl) (omega arith)
+    and plain-row _ (λ _. refl) (λ _. refl) (omega arith)
+    and plain-row _ (λ _. refl) (λ _. refl) (omega arith)
+    and plain-row _ (λ _. refl) (λ _. refl) (omega arith)
+    and plain-row _ (λ _. refl) (λ _. refl) (omega arith)
+    and tt
 
 row-found : (byte : ℕ) (row : CommandRow) → commandRow byte ≡ known row → (row .byte ≡ byte) × RowHolds row
 row-found = found RowHolds commandRows rows-hold

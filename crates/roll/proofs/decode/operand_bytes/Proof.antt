@@ -35,6 +35,7 @@ unfolding commandRows rowAmong
 returns-7 c = ap (λ b. operandLength (commandRow b)) (sym (c .match .keys7))
 
 returns-8 : tie.Need-returns-8
+unfolding commandRows
 returns-8 c = sym (ap operandLength (other-row (c .before .args .byte) (c .match .rest)))
 
 pub operand-bytes-spec : {M : Type 1} → statement M

@@ -103,6 +103,7 @@ returns-7 c =
     ∙ row (args .byte) 7 (drop (args .at) l) (args .size) (c .before .before .match .keys7)
 
 returns-8 : tie.Need-returns-8
+unfolding commandRows
 returns-8 c =
     let args = c .before .before .args in
     sym (ap (λ looked. decodedBy looked (drop (args .at) (args .roll .now)) (args .size)) (other-row (args .byte) (c .match .rest)))
