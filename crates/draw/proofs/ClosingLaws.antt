@@ -2,7 +2,7 @@
 -- tickets.
 use Prim.Native.Nat.{ℕ, _+_, _≤_, _<_}
 use mathlib.Core.Path.{_≡_, refl, sym, ap, _∙_}
-use mathlib.Core.Bool.{Bool, true, false, _&&_}
+use mathlib.Core.Bool.{Bool, true, false, not, _&&_}
 use mathlib.Core.List.{List, [], _∷_, _++_, map, zipWith, append-nil, map-map}
 use native.Mathlib.Nat.{add-zero}
 use native.Mathlib.Omega.{arith}
@@ -16,6 +16,7 @@ use Rattle.house.specs.View.{ticketIn, ticketsOf}
 use Rattle.settlement.specs.Settling.{spread}
 use Rattle.draw.specs.Closing.{paidTicket}
 use Rattle.house.proofs.ListLaws.{keep-append}
+use Rattle.house.proofs.LiveTickets.{finished-on-keeps}
 use Rattle.house.proofs.RowLists.{length-table}
 use Rattle.house.proofs.RowLaws.{tickets-at, tickets-length, take-sold}
 use Rattle.settlement.proofs.SpreadLaws.{length-spread, awarded-spread}
@@ -45,6 +46,23 @@ module _ (day game cents : ℕ) (t : Ticket) (unpaid : cents ≡ 0) where
   pub same-running : isFinished game t ≡ false → paidTicket day game cents t ≡ t
   unfolding gamesLeft
   same-running e = rw e due-same
+
+-- a finishing day closes no ticket, and neither does a payment
+paid-live : (day game cents : ℕ) (t : Ticket) → isLive game (paidTicket day game cents t) ≡ isLive game (withDue t (t .due + cents))
+unfolding gamesLeft
+paid-live day game cents t = finished-on-keeps (isLive game) (λ u d. refl) day game (withDue t (t .due + cents))
+
+module _ (day game cents : ℕ) (t : Ticket) where
+  pub paid-stays : (cents ≡ 0 → ⊥) → false ≡ not (isLive game (paidTicket day game cents t))
+  paid-stays some =
+      rw (
+        paid-live day game cents t,
+        ne-eqb (t .due + cents) 0 (λ none. some (omega arith)),
+        and-off (isFinished game (withDue t (t .due + cents))),
+      )
+
+  pub unpaid-alike : cents ≡ 0 → not (isLive game t) ≡ not (isLive game (paidTicket day game cents t))
+  unpaid-alike none = ap (λ u. not (isLive game u)) (sym (due-same day game cents t none)) ∙ ap not (sym (paid-live day game cents t))
 
 module _ (g : ℕ) (t : Ticket) where
   one-live : isLive g t ≡ true → stillLive g (t ∷ []) ≡ t ∷ []

@@ -9,10 +9,11 @@ use house::ticket::finished_on;
 use house::ticket::is_closed;
 use house::ticket::is_finished;
 ghost use mathlib.Core.Path.{_≡_};
-ghost use mathlib.Core.Bool.{true};
+ghost use mathlib.Core.Bool.{true, not};
 ghost use mathlib.Core.List.{List, [], _∷_, _++_};
 ghost use Prim.Native.Nat.{ℕ, _+_, _≤_, _<_, _^_};
 ghost use lib.ListN.{take, drop};
+ghost use Rattle.house.specs.Tickets.{isLive};
 ghost use Rattle.house.specs.Commands.{stillLive, ticketsAfterGame, gameEnded};
 ghost use Rattle.house.specs.View.{rowAt, ticketFrom, ticketIn, ticketsOf, view};
 ghost use Rattle.settlement.specs.Settling.{spread};
@@ -26,6 +27,16 @@ fn paid_row(mut row: Row, day: u64, game: u64, cents: u64) -> Row
     let due = row.due + cents;
     row.due = due;
     finished_on(day, game, row)
+}
+
+// Whether a ticket closes with what it is paid: nothing, and nothing was due. What is paid is tested first, since then no row has to be read.
+fn closes(row: Row, game: u64, cents: u64) -> bool
+    ensures { λ r. ⌜ ((day : ℕ) (m : List ℕ) → r ≡ not (isLive game (paidTicket day game cents (ticketFrom row m)))) ⌝ }
+{
+    if cents != 0 {
+        return false;
+    }
+    is_closed(game, row)
 }
 
 // Whether a ticket is the same with what it is paid: nothing, and it has a game left or its finishing day already.
@@ -58,15 +69,14 @@ fn close_ticket(
     ensures rest { λ r. ⌜ drop (i + 1) (ticketsOf (now (rows .exit)) (now (marks .exit))) ≡ drop (i + 1) (ticketsOf (now (rows .entry)) (now (marks .entry))) ⌝ }
 {
     let row = read_row(rows, i);
-    let paid = paid_row(row, day, game, cents);
-    if is_closed(game, paid) {
+    if closes(row, game, cents) {
         return left;
     }
     move_ticket(rows, marks, i, left);
-    if is_same(row, game, cents) {
+    let moved = read_row(rows, left);
+    if is_same(moved, game, cents) {
         return left + 1;
     }
-    let moved = read_row(rows, left);
     change_ticket(rows, left, paid_row(moved, day, game, cents));
     left + 1
 }

@@ -7,7 +7,7 @@ ghost use mathlib.Core.Path.{_≡_};
 ghost use mathlib.Core.Bool.{cond};
 ghost use Prim.Native.Nat.{_+_, _*_, _≤_, _<_, _^_};
 ghost use lib.Dec.{eqb};
-ghost use lib.ListN.{length, take};
+ghost use lib.ListN.{length, take, getD};
 ghost use Rattle.sale.specs.Lists.{sum};
 ghost use Rattle.prizes.specs.Jackpots.{winningStake};
 ghost use Rattle.settlement.specs.Sharing.{winnerFrom, figuresOf, Entered};
@@ -27,13 +27,14 @@ pub struct GameFigures {
     pub eight: Stakes,
 }
 
-// A jackpot's stakes with those of a ticket that has so many full matches and paid so much for the game: the same where it does not play for the
-// jackpot.
-fn with_ticket(stakes: Stakes, row: Row, matches: u64, paid: u64) -> Stakes
-    requires { ⌜ (stakes .paid + paid < 2 ^ 64) × (stakes .winning + matches * row .stake < 2 ^ 64) ⌝ }
+// A jackpot's stakes with those of the ticket at a place, which paid so much for the game: the same where it does not play for the jackpot, and
+// then its full matches are not read.
+fn with_ticket(stakes: Stakes, row: Row, full: &[u64; 200], i: usize, paid: u64) -> Stakes
+    requires place { ⌜ i < 200 ⌝ }
+    requires room { ⌜ (stakes .paid + paid < 2 ^ 64) × (stakes .winning + getD (now full) i 0 * row .stake < 2 ^ 64) ⌝ }
     ensures same { λ r. ⌜ r .jackpot ≡ stakes .jackpot ⌝ }
     ensures paid { λ r. ⌜ r .paid ≡ stakes .paid + cond (eqb (row .jackpot) (stakes .jackpot)) paid 0 ⌝ }
-    ensures winning { λ r. ⌜ r .winning ≡ stakes .winning + winningStake (winnerFrom row matches (stakes .jackpot)) ⌝ }
+    ensures winning { λ r. ⌜ r .winning ≡ stakes .winning + winningStake (winnerFrom row (getD (now (full .entry)) i 0) (stakes .jackpot)) ⌝ }
 {
     if row.jackpot != stakes.jackpot {
         return stakes;
@@ -41,7 +42,7 @@ fn with_ticket(stakes: Stakes, row: Row, matches: u64, paid: u64) -> Stakes
     Stakes {
         jackpot: stakes.jackpot,
         paid: stakes.paid + paid,
-        winning: stakes.winning + matches * row.stake,
+        winning: stakes.winning + full[i] * row.stake,
     }
 }
 
@@ -73,11 +74,10 @@ pub(crate) fn find_figures(
     while i < live {
         let row = read_row(rows, i);
         let own = paid_for(game, row);
-        let matches = full[i];
         prizes += paid[i];
         stakes += own;
-        six = with_ticket(six, row, matches, own);
-        eight = with_ticket(eight, row, matches, own);
+        six = with_ticket(six, row, full, i, own);
+        eight = with_ticket(eight, row, full, i, own);
         i += 1;
     }
     GameFigures {

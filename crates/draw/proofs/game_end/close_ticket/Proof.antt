@@ -40,21 +40,14 @@ own s = marksAt (s .args .marks .now) (s .args .i)
 row-here : (c : tie.After-read-row) → ticketFrom (c .read-row .result) (own (startOf c)) ≡ ticket (startOf c)
 row-here c = ap (λ (r : Row). ticketFrom r (own (startOf c))) (c .read-row .ensures)
 
-paid-here : (c : tie.After-paid-row) → ticketFrom (c .paid-row .result) (own (startOf (c .before))) ≡ paid (startOf (c .before))
-paid-here c =
-    let s = startOf (c .before) in
-    c .paid-row .ensures (own s) ∙ ap (paidTicket (s .args .day) (s .args .game) (s .args .cents)) (row-here (c .before))
-
-closed-here : (c : tie.After-is-closed) → c .is-closed .result ≡ not (isLive (startOf (c .before .before) .args .game) (paid (startOf (c .before .before))))
+closed-here : (c : tie.After-closes) → c .closes .result ≡ not (isLive (startOf (c .before) .args .game) (paid (startOf (c .before))))
 closed-here c =
-    let s = startOf (c .before .before) in
-    c .is-closed .ensures (own s) ∙ ap (λ t. not (isLive (s .args .game) t)) (paid-here (c .before))
-
-abbrev paying : tie.After-move-ticket → tie.After-paid-row
-paying c = c .before .before .before .before .before
+    let s = startOf (c .before) in
+    let args = s .args in
+    c .closes .ensures (args .day) (own s) ∙ ap (λ t. not (isLive (args .game) (paidTicket (args .day) (args .game) (args .cents) t))) (row-here (c .before))
 
 abbrev begun : tie.After-move-ticket → tie.Start
-begun c = startOf (paying c .before)
+begun c = startOf (c .before .before .before .before .before)
 
 -- the ticket at its new place, before it is paid
 here : (c : tie.After-move-ticket) → ticketIn (c .move-ticket .last .0) (c .move-ticket .last .1 .0) (begun c .args .left) ≡ ticket (begun c)
@@ -74,16 +67,12 @@ stays c =
 read-row-requires : tie.Need-read-row-requires
 read-row-requires c κs = search needs
 
-paid-row-requires : tie.Need-paid-row-requires
-paid-row-requires c κs =
-    omega (arith, startOf c .pre, ap (λ (r : Row). r .due) (c .read-row .ensures))
-
-is-closed-requires : tie.Need-is-closed-requires
-is-closed-requires c κs = search needs
+closes-requires : tie.Need-closes-requires
+closes-requires c κs = search needs
 
 returns : tie.Need-returns
 returns c =
-    let s = startOf (c .before .before .before) in
+    let s = startOf (c .before .before) in
     let args = s .args in (
       omega arith,
       (
@@ -95,6 +84,17 @@ returns c =
 move-ticket-requires : tie.Need-move-ticket-requires
 move-ticket-requires c κs = search needs
 
+read-row-requires-2 : tie.Need-read-row-requires-2
+read-row-requires-2 c κs = search needs
+
+-- the row that is read there is the ticket's
+moved-here : (c : tie.After-read-row2) →
+    let moved = c .before .before in
+    ticketFrom (c .read-row2 .result) (marksAt (moved .move-ticket .last .1 .0) (begun moved .args .left)) ≡ ticket (begun moved)
+moved-here c =
+    let moved = c .before .before in
+    ap (λ (r : Row). ticketFrom r (marksAt (moved .move-ticket .last .1 .0) (begun moved .args .left))) (c .read-row2 .ensures) ∙ here moved
+
 is-same-requires : tie.Need-is-same-requires
 is-same-requires c κs = search needs
 
@@ -103,14 +103,15 @@ add-result c = search needs
 
 returns-2 : tie.Need-returns-2
 returns-2 c =
-    let moved = c .before .before in
-    let read = paying moved .before in
+    let read = c .before .before in
+    let moved = read .before .before in
     let s = begun moved in
     let args = s .args in
+    let marks = marksAt (moved .move-ticket .last .1 .0) (args .left) in
     let same : paid s ≡ ticket s =
-    ap (paidTicket (args .day) (args .game) (args .cents)) (sym (row-here read))
-    ∙ c .before .is-same .ensures (c .if2 .taken) (args .day) (own s)
-    ∙ row-here read in (
+    ap (paidTicket (args .day) (args .game) (args .cents)) (sym (moved-here read))
+    ∙ c .before .is-same .ensures (c .if2 .taken) (args .day) marks
+    ∙ moved-here read in (
       omega arith,
       (
         ap (take (args .left + 1)) (moved .move-ticket .ensures ∙ ap (set (tickets s) (args .left)) (tickets-at (args .rows .now) (args .marks .now) (args .i) (s .pre .1) ∙ sym same))
@@ -120,40 +121,35 @@ returns-2 c =
       ),
     )
 
-read-row-requires-2 : tie.Need-read-row-requires-2
-read-row-requires-2 c κs = search needs
-
-paid-row-requires-2 : tie.Need-paid-row-requires-2
-paid-row-requires-2 c κs =
-    let moved = c .before .before .before .before .before in
-    omega (
-      arith,
-      begun moved .pre,
-      ap (λ (r : Row). r .due) (c .before .read-row2 .ensures),
-      ap (λ (t : Ticket). t .due) (here moved),
-    )
+paid-row-requires : tie.Need-paid-row-requires
+paid-row-requires c κs =
+    let read = c .before .before .before in
+    omega (arith, begun (read .before .before) .pre, ap (λ (t : Ticket). t .due) (moved-here read))
 
 change-ticket-requires : tie.Need-change-ticket-requires
-change-ticket-requires c κs = record { within = omega (arith, begun (c .before .before .before .before .before .before) .pre) }
+change-ticket-requires c κs =
+    let read = c .before .before .before .before in
+    record { within = omega (arith, begun (read .before .before) .pre) }
 
 add-result-2 : tie.Need-add-result-2
-add-result-2 c = omega (arith, begun (c .before .before .before .before .before .before .before) .pre)
+add-result-2 c =
+    let read = c .before .before .before .before .before in
+    omega (arith, begun (read .before .before) .pre)
 
 returns-3 : tie.Need-returns-3
 returns-3 c =
-    let moved = c .before .before .before .before .before .before .before in
+    let read = c .before .before .before .before .before in
+    let moved = read .before .before in
     let s = begun moved in
     let args = s .args in
     let marks = moved .move-ticket .last .1 .0 in
     let own = marksAt marks (args .left) in
     let stored =
     c .change-ticket .ensures marks
-    ∙ ap (λ (ts : List Ticket). set ts (args .left) (ticketFrom (c .before .paid-row2 .result) own)) (moved .move-ticket .ensures)
+    ∙ ap (λ (ts : List Ticket). set ts (args .left) (ticketFrom (c .before .paid-row .result) own)) (moved .move-ticket .ensures)
     ∙ set-set (tickets s) (args .left) _ _
     ∙ ap (set (tickets s) (args .left))
-    (c .before .paid-row2 .ensures own
-    ∙ ap (λ (r : Row). paidTicket (args .day) (args .game) (args .cents) (ticketFrom r own)) (c .before .before .before .read-row2 .ensures)
-    ∙ ap (paidTicket (args .day) (args .game) (args .cents)) (here moved)) in (
+    (c .before .paid-row .ensures own ∙ ap (paidTicket (args .day) (args .game) (args .cents)) (moved-here read)) in (
       omega arith,
       (
         ap (take (args .left + 1)) stored ∙ stays moved,
@@ -166,15 +162,14 @@ close-ticket-spec =
     tie.close
     (tie.spec
     read-row-requires
-    paid-row-requires
-    is-closed-requires
+    closes-requires
     returns
     move-ticket-requires
+    read-row-requires-2
     is-same-requires
     add-result
     returns-2
-    read-row-requires-2
-    paid-row-requires-2
+    paid-row-requires
     change-ticket-requires
     add-result-2
     returns-3)

@@ -51,21 +51,15 @@ paid-for-requires c κs =
     let i = c .before .before .loop .i in
     subst⁻¹ Affordable (c .read-row .ensures) (record { within = rows .within i (c .before .loop-test .taken) })
 
-mul-matches : tie.Need-mul-matches Inv-loop μ-loop
-mul-matches c = omega (arith, c .before .before .before .before .pre .0 .few)
-
-element-copy-out-matches : tie.Need-element-copy-out-matches Inv-loop μ-loop
-element-copy-out-matches c = omega (arith, c .before .before .before .before .pre .0 .few)
-
 mul-prizes : tie.Need-mul-prizes Inv-loop μ-loop
-mul-prizes c = omega (arith, c .before .before .before .before .before .pre .0 .few)
+mul-prizes c = omega (arith, c .before .before .before .before .pre .0 .few)
 
 element-copy-out-prizes : tie.Need-element-copy-out-prizes Inv-loop μ-loop
-element-copy-out-prizes c = omega (arith, c .before .before .before .before .before .pre .0 .few)
+element-copy-out-prizes c = omega (arith, c .before .before .before .before .pre .0 .few)
 
 add-prizes : tie.Need-add-prizes Inv-loop μ-loop
 add-prizes c =
-    let turning = c .before .before .before .before in
+    let turning = c .before .before .before in
     let start = turning .before .before in
     let turn = turning .before .loop in
     let paid = start .args .paid .now in
@@ -79,7 +73,7 @@ add-prizes c =
 
 add-stakes : tie.Need-add-stakes Inv-loop μ-loop
 add-stakes c =
-    let own = c .before .before in
+    let own = c .before in
     let turning = own .before .before in
     let start = turning .before .before in
     let args = start .args in
@@ -95,35 +89,39 @@ add-stakes c =
 
 with-ticket-requires : tie.Need-with-ticket-requires Inv-loop μ-loop
 with-ticket-requires c κs =
+    let own = c .before in
+    let read = own .before in
+    let turning = read .before in
+    let start = turning .before .before in
+    let args = start .args in
+    let turn = turning .before .loop in (
+      omega (arith, start .pre .0 .few, turning .loop-test .taken),
+      stakes-room (args .rows .now) (args .full .now) (args .game) 6 (turn .i) (own .paid-for .result) (turn .six) (turn .inv .3) (read .read-row .result) (read .read-row .ensures) (own-paid own) (args .live) (start .pre .0) (turning .loop-test .taken),
+    )
+
+with-ticket-requires-2 : tie.Need-with-ticket-requires-2 Inv-loop μ-loop
+with-ticket-requires-2 c κs =
     let own = c .before .before in
     let read = own .before in
     let turning = read .before in
     let start = turning .before .before in
     let args = start .args in
-    let turn = turning .before .loop in
-    stakes-room (args .rows .now) (args .full .now) (args .game) 6 (turn .i) (own .paid-for .result) (turn .six) (turn .inv .3) (read .read-row .result) (read .read-row .ensures) (own-paid own) (args .live) (start .pre .0) (turning .loop-test .taken)
-
-with-ticket-requires-2 : tie.Need-with-ticket-requires-2 Inv-loop μ-loop
-with-ticket-requires-2 c κs =
-    let own = c .before .before .before in
-    let read = own .before in
-    let turning = read .before in
-    let start = turning .before .before in
-    let args = start .args in
-    let turn = turning .before .loop in
-    stakes-room (args .rows .now) (args .full .now) (args .game) 8 (turn .i) (own .paid-for .result) (turn .eight) (turn .inv .4) (read .read-row .result) (read .read-row .ensures) (own-paid own) (args .live) (start .pre .0) (turning .loop-test .taken)
+    let turn = turning .before .loop in (
+      omega (arith, start .pre .0 .few, turning .loop-test .taken),
+      stakes-room (args .rows .now) (args .full .now) (args .game) 8 (turn .i) (own .paid-for .result) (turn .eight) (turn .inv .4) (read .read-row .result) (read .read-row .ensures) (own-paid own) (args .live) (start .pre .0) (turning .loop-test .taken),
+    )
 
 add-i : tie.Need-add-i Inv-loop μ-loop
 add-i c =
-    let turning = c .before .before .before .before .before .before in
+    let turning = c .before .before .before .before .before in
     omega (arith, turning .loop-test .taken, turning .before .before .pre .0 .few)
 
 loop-less : tie.Need-loop-less Inv-loop μ-loop
-loop-less c = omega (arith, c .before .before .before .before .before .before .loop-test .taken)
+loop-less c = omega (arith, c .before .before .before .before .before .loop-test .taken)
 
 loop-again : tie.Need-loop-again Inv-loop μ-loop
 loop-again c =
-    let own = c .before .before .before .before in
+    let own = c .before .before .before in
     let read = own .before in
     let turning = read .before in
     let start = turning .before .before in
@@ -155,8 +153,6 @@ find-figures-spec =
     loop-holds
     read-row-requires
     paid-for-requires
-    mul-matches
-    element-copy-out-matches
     mul-prizes
     element-copy-out-prizes
     add-prizes

@@ -13,22 +13,28 @@ returns c =
     let other = ne-eqb (args .row .jackpot) (args .stakes .jackpot) (c .if1 .taken) in
     (refl, (rw other (omega arith), rw other (omega (arith, zero-mul (args .row .stake)))))
 
-add-t6 : tie.Need-add-t6
-add-t6 c = search needs
+add-t7 : tie.Need-add-t7
+add-t7 c = search needs
 
-mul-t7 : tie.Need-mul-t7
-mul-t7 c = search needs
+mul-t8 : tie.Need-mul-t8
+mul-t8 c = search needs
 
-add-t8 : tie.Need-add-t8
-add-t8 c = search needs
+element-copy-out-t11 : tie.Need-element-copy-out-t11
+element-copy-out-t11 c = search needs
+
+mul-t12 : tie.Need-mul-t12
+mul-t12 c = search needs
+
+add-t13 : tie.Need-add-t13
+add-t13 c = search needs
 
 returns-2 : tie.Need-returns-2
 returns-2 c =
-    let test = c .before .before .before in
+    let test = c .before .before .before .before in
     let args = test .before .before .before .args in
     let own = eq-eqb (args .row .jackpot) (args .stakes .jackpot) (test .if1 .left) in
     (refl, (rw own, rw own))
 
 pub with-ticket-spec : {M : Type 1} → statement M
 with-ticket-spec =
-    tie.close (tie.spec returns add-t6 mul-t7 add-t8 returns-2)
+    tie.close (tie.spec returns add-t7 mul-t8 element-copy-out-t11 mul-t12 add-t13 returns-2)
