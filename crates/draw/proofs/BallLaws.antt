@@ -17,16 +17,13 @@ use Rattle.prizes.specs.declared.draw.Draw.{Draw}
 use Rattle.prizes.proofs.SettleLaws.{member-left, member-right, awards-count, awards-sum}
 use Rattle.house.specs.Tickets.{Ticket, entryOf}
 use Rattle.house.specs.Model.{Model, withMoney, withSeeds, withGained, withLost}
-use Rattle.house.specs.Commands.{ball, blankTicket, replies, codeOf, ballsWith, settles, runningIn, settledBy, settlement, stakesDrawn, finishedOn, awarded, gameEnded, gameSettled, ballEntered, act, reply, step}
+use Rattle.house.specs.Commands.{ball, replies, codeOf, ballsWith, settles, runningIn, settledBy, settlement, stakesDrawn, finishedOn, awarded, gameEnded, gameSettled, ballEntered, act, reply, step}
 use Rattle.house.specs.Balance.{Reached}
 use Rattle.house.specs.Till.{tillOf}
-use Rattle.house.specs.View.{ticketIn, view}
+use Rattle.house.specs.View.{view}
 use Rattle.house.specs.declared.state.House.{House}
-use Rattle.house.proofs.Ledger.{All}
 use Rattle.house.proofs.Refusals.{or-false}
 use Rattle.house.proofs.MoneyLaws.{sum-unmoved}
-use Rattle.house.proofs.RowLists.{length-table, getD-table}
-use Rattle.house.proofs.RisingNumbers.{all-at}
 use Rattle.house.proofs.SheetFigures.{live-owed, finished-due, awarded-owed}
 use Rattle.house.proofs.Reliance.{twentieth-settles}
 use Rattle.house.proofs.Theorem.{reached-step}
@@ -98,16 +95,6 @@ module _ (m : Model) (b : ℕ) where
       let twenty : length (ballsWith b m) ≡ 20 = omega (arith, balls-one-more) in
       let last : settles b m ≡ true = eq-eqb (length (ballsWith b m)) 20 twenty in
       (rw last, rw (last, twenty))
-
--- ---- the live tickets of a view
-
-module _ (h : House) (words marks : List ℕ) where
-  pub each-live : (P : Ticket → Type 0) → All P (view h words marks .live) → (i : ℕ) → i < h .live → P (ticketIn words marks i)
-  unfolding view
-  each-live P all i b =
-      subst P (getD-table (ticketIn words marks) (h .live) i blankTicket b)
-      (all-at P (map (ticketIn words marks) (below (h .live))) all i blankTicket
-      (omega (arith, length-table (ticketIn words marks) (h .live))))
 
 -- ---- the twentieth ball
 

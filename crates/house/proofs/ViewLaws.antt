@@ -1,7 +1,7 @@
 -- Laws of the view: how a command is shown to be carried out, and what the view's balls and live tickets are in the struct and the rows.
 use Prim.Native.Nat.{ℕ, _+_, _*_, _≤_, _<_}
 use native.Mathlib.Omega.{arith}
-use mathlib.Core.Path.{_≡_, refl, sym, ap, _∙_}
+use mathlib.Core.Path.{_≡_, refl, sym, ap, subst, _∙_}
 use mathlib.Core.Bool.{cond, not}
 use mathlib.Core.List.{List, map}
 use lib.Dec.{eqb, ltb}
@@ -15,10 +15,10 @@ use Rattle.house.specs.Commands.{Command, Answer, blankTicket, ticketAt,
 use Rattle.house.specs.View.{ticketIn, ticketsOf, placeOf, RisingRows, view}
 use Rattle.house.specs.Parts.{Carried}
 use Rattle.house.specs.declared.state.House.{House}
-use Rattle.house.proofs.Ledger.{withLive}
+use Rattle.house.proofs.Ledger.{All, withLive}
 use Rattle.house.proofs.OneCommand.{refused-unchanged, accepted-done}
 use Rattle.house.proofs.ReachedHouses.{Sure}
-use Rattle.house.proofs.RisingNumbers.{rising-at}
+use Rattle.house.proofs.RisingNumbers.{all-at, rising-at}
 use Rattle.house.proofs.RowLists.{length-table, getD-table}
 use Rattle.house.proofs.RowLaws.{place-has, place-ticket, live-at, live-length}
 
@@ -106,6 +106,13 @@ module _ (h : House) (words marks : List ℕ) where
         rising = λ j k l b.
             omega (arith, number-at j (omega arith), number-at k b, rising-at (view h words marks .live) (sure .rising) j k l (omega (arith, live-count)));
       }
+
+  -- what holds of every live ticket holds of the one at a place
+  pub each-live : (P : Ticket → Type 0) → All P (view h words marks .live) → (i : ℕ) → i < h .live → P (ticketIn words marks i)
+  unfolding view
+  each-live P all i b =
+      subst P (getD-table (ticketIn words marks) (h .live) i blankTicket b)
+      (all-at P (view h words marks .live) all i blankTicket (omega (arith, live-count)))
 
   -- a view by its live tickets
   pub view-by : (ts : List Ticket) → view h words marks .live ≡ ts → view h words marks ≡ withLive (view h words marks) ts

@@ -1,7 +1,7 @@
 -- What the house's struct and the lent buffers say. The view is the model that the commands' contracts
 -- speak of; rows beyond the live ones are no part of it.
 use Prim.Native.Nat.{ℕ, suc, _+_, _*_, _≤_, _<_}
-use mathlib.Core.Bool.{cond}
+use mathlib.Core.Bool.{cond, not}
 use mathlib.Core.List.{List, [], _∷_, _++_, map}
 use lib.Dec.{eqb}
 use mathlib.Core.Path.{_≡_}
@@ -9,7 +9,7 @@ use lib.ListN.{length, take, drop, getD}
 use lib.Seq.{sets}
 use Rattle.sale.specs.Lists.{below}
 use Rattle.sale.specs.Price.{chargeLimit}
-use Rattle.house.specs.Tickets.{Ticket, paidStakes}
+use Rattle.house.specs.Tickets.{Ticket, isFinished, paidStakes}
 use Rattle.house.specs.Model.{Model, gameLimit}
 use Rattle.house.specs.declared.state.House.{House}
 use Rattle.house.specs.declared.rows.Row.{Row}
@@ -115,6 +115,10 @@ pub record Affordable (w : Row) : Type 0 where
 -- the same of the paid stakes of the games from one up to another
 pub record PaidWithin (from upto : ℕ) (w : Row) : Type 0 where
   pub within : paidStakes from upto (ticketFrom w []) ≤ chargeLimit
+
+-- a ticket whose finishing day is set just where no game is left
+pub record DayTells (game : ℕ) (t : Ticket) : Type 0 where
+  pub tells : isFinished game t ≡ not (eqb (t .finishedDay) 0)
 
 -- a list without the element at a place
 unfoldable pub without {ℓ} : {A : Type ℓ} → ℕ → List A → List A

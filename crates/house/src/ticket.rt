@@ -1,7 +1,6 @@
 // Questions about one ticket, asked of its row: its games, its dues, its days and its stakes. None of them reads a mark.
 use crate::rows::Row;
 use crate::rows::finishing_day;
-use crate::rows::read_row;
 ghost use mathlib.Core.Path.{_≡_};
 ghost use mathlib.Core.Bool.{cond, not};
 ghost use mathlib.Core.List.{List};
@@ -10,7 +9,7 @@ ghost use Rattle.prizes.specs.Bounds.{ExpiryBound};
 ghost use Rattle.house.specs.Tickets.{runsIn, isFinished, isLive, paidStakes, heldFor, kenoToGoBegun};
 ghost use Rattle.house.specs.Model.{Model};
 ghost use Rattle.house.specs.Commands.{finishedOn, isExpired};
-ghost use Rattle.house.specs.View.{ticketFrom, ticketIn, IsRow, Affordable, PaidWithin};
+ghost use Rattle.house.specs.View.{ticketFrom, ticketIn, IsRow, Affordable, PaidWithin, DayTells};
 
 // Whether the ticket runs in a game.
 pub fn runs_in(game: u64, row: Row) -> bool
@@ -42,15 +41,20 @@ pub fn is_closed(game: u64, row: Row) -> bool
     is_finished(game, row)
 }
 
-// Whether the ticket at a place has expired, by the day's bound. Its finishing day is read and tested first, since few tickets pass that test.
-pub fn is_expired(rows: &[u64; 3200], i: usize, game: u64, bound: u64) -> bool
+// Whether the ticket at a place has expired, by the day's bound. A ticket that is not finished has no finishing day, so that no other word of it is
+// read.
+pub fn is_expired(rows: &[u64; 3200], i: usize, bound: u64) -> bool
     requires { ⌜ IsRow i ⌝ }
-    ensures { λ r. ⌜ ((m : Model) (marks : List ℕ) → m .game ≡ game → ExpiryBound (m .day) bound → r ≡ isExpired m (ticketIn (now (rows .entry)) marks i)) ⌝ }
+    ensures { λ r. ⌜ ((m : Model) (marks : List ℕ)
+        → DayTells (m .game) (ticketIn (now (rows .entry)) marks i)
+        → ExpiryBound (m .day) bound
+        → r ≡ isExpired m (ticketIn (now (rows .entry)) marks i)) ⌝ }
 {
-    if bound <= finishing_day(rows, i) {
+    let day = finishing_day(rows, i);
+    if day == 0 {
         return false;
     }
-    is_finished(game, read_row(rows, i))
+    day < bound
 }
 
 // Whether the ticket is one of 50 games or more and has begun.

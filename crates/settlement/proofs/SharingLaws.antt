@@ -27,7 +27,6 @@ use Rattle.sale.proofs.WayLaws.{ways-few}
 use Rattle.house.specs.Tickets.{Ticket, runsIn, paidStakes, entryOf}
 use Rattle.house.specs.View.{rowAt, marksAt, ticketFrom, ticketIn, view}
 use Rattle.house.specs.Balance.{Reached}
-use Rattle.house.specs.Commands.{blankTicket}
 use Rattle.settlement.specs.Settling.{entriesOf, spread, fullIn, guaranteeOf, SharedOut}
 use Rattle.house.specs.declared.state.House.{House}
 use Rattle.house.specs.declared.rows.Row.{Row}
@@ -36,7 +35,7 @@ use Rattle.settlement.specs.declared.figures.Stakes.{Stakes}
 use Rattle.settlement.specs.Sharing.{paidAt, paidIn, stakesAt, stakesIn, winnerFrom, winnerAt, winnersIn, stakesOf, Entered, Shareable}
 use Rattle.house.proofs.Ledger.{Kept}
 use Rattle.house.proofs.ListLaws.{cond-either}
-use Rattle.house.proofs.RisingNumbers.{all-at}
+use Rattle.house.proofs.ViewLaws.{each-live}
 use Rattle.house.proofs.ReachedHouses.{reached-sure}
 use Rattle.settlement.proofs.SpreadLaws.{spread-runs, spread-rests, spread-entries, spread-added, sum-spread}
 use Rattle.house.proofs.MoneyLaws.{sum-snoc}
@@ -518,10 +517,7 @@ module _
 
     kept-at : (i : ℕ) → i < h .live → Kept (h .game) (ticket i)
     unfolding view
-    kept-at i b =
-        subst (Kept (h .game)) (getD-table ticket (h .live) i blankTicket b)
-        (all-at (Kept (h .game)) (view h words marks .live) (reached-sure (view h words marks) reached .kept) i blankTicket
-        (omega (arith, length-table ticket (h .live))))
+    kept-at = each-live h words marks (Kept (h .game)) (reached-sure (view h words marks) reached .kept)
 
     full-at : (i : ℕ) → i < h .live
         → getD full i 0 ≡ cond (runsIn (h .game) (ticket i)) (fullMatches draw (entryOf (h .game) (ticket i))) 0

@@ -7,18 +7,19 @@ use native.Mathlib.Omega.{arith}
 use mathlib.Core.Path.{_≡_, refl, sym, ap, _∙_}
 use mathlib.Core.Bool.{Bool, true, false, cond, not}
 use mathlib.Core.List.{List, [], _∷_, _++_, map, append-nil}
+use lib.Dec.{eqb}
 use lib.ListN.{length, getD, set, take, drop, length-append}
 use lib.Seq.{take-suc, getD-drop, take-suc-set, drop-set-lt, drop-drop}
-use borrow.Author.Tests.{eq-eqb, ne-eqb, eqb-true}
+use borrow.Author.Tests.{eq-eqb, ne-eqb, eqb-true, eqb-false}
 use Rattle.sale.specs.Lists.{sum, keep}
 use Rattle.sale.specs.Checks.{firstMet}
 use Rattle.house.specs.Tickets.{Ticket, gamesLeft, isLive, withDue}
 use Rattle.house.specs.Model.{Model, fresh, withUnclaimed}
 use Rattle.house.specs.Commands.{blankTicket, expire, rowsOf, codeOf, stillLive, isExpired, expiring, expired}
-use Rattle.house.specs.View.{ticketsOf, view}
+use Rattle.house.specs.View.{ticketsOf, view, DayTells}
 use Rattle.tickets.specs.Steps.{Swept}
 use Rattle.house.specs.declared.state.House.{House}
-use Rattle.house.proofs.Ledger.{All, withLive}
+use Rattle.house.proofs.Ledger.{All, Kept, withLive}
 use Rattle.house.proofs.ListLaws.{keep-append, keep-snoc}
 use Rattle.house.proofs.Refusals.{and-true}
 use Rattle.house.proofs.LiveTickets.{not-live}
@@ -36,6 +37,16 @@ module _ (m : Model) where
   pub expire-open : (m .day ≡ 0 → ⊥) → codeOf m expire ≡ 0
   unfolding codeOf rowsOf firstMet
   expire-open e = rw (ne-eqb (m .day) 0 e)
+
+-- the finishing day of a ticket tells whether it is finished
+pub kept-tells : (game : ℕ) (t : Ticket) → Kept game t → DayTells game t
+kept-tells game t kept = record { tells = go (eqb (gamesLeft game t) 0) (eqb (t .finishedDay) 0) refl refl }
+  where
+    go : (done none : Bool) → eqb (gamesLeft game t) 0 ≡ done → eqb (t .finishedDay) 0 ≡ none → done ≡ not none
+    go true true e f = absurd (kept .finished (eqb-true _ _ e) (eqb-true _ _ f))
+    go true false e f = refl
+    go false true e f = refl
+    go false false e f = absurd (eqb-false _ _ f (kept .running (eqb-false _ _ e)))
 
 -- a house of which only the game and the day count
 abbrev pub onDay : ℕ → ℕ → Model

@@ -8,11 +8,11 @@ use house::state::House;
 use house::ticket::is_expired;
 use prizes::expiry::expiry_bound;
 ghost use mathlib.Core.List.{map};
-ghost use Prim.Native.Nat.{_^_, _≤_, _<_};
+ghost use Prim.Native.Nat.{ℕ, _^_, _≤_, _<_};
 ghost use Rattle.sale.specs.Lists.{sum};
 ghost use Rattle.house.specs.Commands.{expire};
 ghost use Rattle.house.specs.Balance.{Reached};
-ghost use Rattle.house.specs.View.{view};
+ghost use Rattle.house.specs.View.{view, ticketIn, DayTells};
 ghost use Rattle.house.specs.Parts.{Carried};
 ghost use Rattle.tickets.specs.Steps.{Swept};
 
@@ -25,9 +25,9 @@ struct Sweep {
 // The live tickets without those that have expired: the others move down.
 fn drop_expired(house: House, rows: &mut [u64; 3200], marks: &mut [u8; 16000]) -> Sweep
     requires { ⌜ (house .live ≤ 200) × (sum (map (λ t. t .due) (view house (now rows) (now marks) .live)) < 2 ^ 62) ⌝ }
+    requires days { ⌜ ((i : ℕ) → i < house .live → DayTells (house .game) (ticketIn (now rows) (now marks) i)) ⌝ }
     ensures { λ r. ⌜ Swept (view house (now (rows .entry)) (now (marks .entry))) (now (rows .exit)) (now (marks .exit)) (r .left) (r .cents) ⌝ }
 {
-    let game = house.game;
     let day = house.day;
     let bound = expiry_bound(day);
     let live = house.live as usize;
@@ -35,7 +35,7 @@ fn drop_expired(house: House, rows: &mut [u64; 3200], marks: &mut [u8; 16000]) -
     let mut cents: u64 = 0;
     let mut i: usize = 0;
     while i < live {
-        if is_expired(rows, i, game, bound) {
+        if is_expired(rows, i, bound) {
             let row = read_row(rows, i);
             cents = cents + row.due;
             i += 1;

@@ -15,9 +15,9 @@ use Rattle.house.specs.View.{view}
 use Rattle.settlement.specs.Settling.{SettledAs}
 use Rattle.settlement.proofs.GameLaws.{awards-fit}
 use Rattle.house.proofs.ReachedHouses.{Sure, reached-sure}
-use Rattle.house.proofs.ViewLaws.{carried-done, live-count}
+use Rattle.house.proofs.ViewLaws.{carried-done, live-count, each-live}
 use Rattle.draw.specs.Closing.{CompletesDraw}
-use Rattle.draw.proofs.BallLaws.{last-act, each-live, lastDraw, Fitting, fitting, settled-reply, settled-view}
+use Rattle.draw.proofs.BallLaws.{last-act, lastDraw, Fitting, fitting, settled-reply, settled-view}
 use Rattle.draw.proofs.settle.settle_game.Statement.{statement}
 use Rattle.draw.proofs.settle.settle_game.Tie as tie
 

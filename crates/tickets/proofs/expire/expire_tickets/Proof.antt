@@ -9,9 +9,10 @@ use Rattle.house.specs.Model.{Model}
 use Rattle.house.specs.Commands.{expire, replies, answerOf, act, reply, expiring}
 use Rattle.house.specs.Till.{tillOf}
 use Rattle.house.specs.View.{view}
+use Rattle.house.proofs.Ledger.{Kept}
 use Rattle.house.proofs.ReachedHouses.{Sure, reached-sure}
-use Rattle.house.proofs.ViewLaws.{carried-refused, carried-done, live-count}
-use Rattle.tickets.proofs.ExpireLaws.{expire-closed, expire-open, dues-within, house-expired}
+use Rattle.house.proofs.ViewLaws.{carried-refused, carried-done, live-count, each-live}
+use Rattle.tickets.proofs.ExpireLaws.{expire-closed, expire-open, kept-tells, dues-within, house-expired}
 use Rattle.tickets.proofs.expire.expire_tickets.Statement.{statement}
 use Rattle.tickets.proofs.expire.expire_tickets.Tie as tie
 
@@ -43,10 +44,14 @@ returns c =
     (c .refused .ensures .1)
 
 drop-expired-requires : tie.Need-drop-expired-requires
-unfolding tillOf
+unfolding tillOf view
 drop-expired-requires c κs =
     let start = c .before .before .before in
-    (omega (arith, counted start, sure start .few), sure start .fit .figures .owed)
+    let args = start .args in
+    let m = entry start in (
+      (omega (arith, counted start, sure start .few), sure start .fit .figures .owed),
+      λ i b. kept-tells (m .game) _ (each-live (args .house) (args .rows .now) (args .marks .now) (Kept (m .game)) (sure start .kept) i b),
+    )
 
 sub-gone : tie.Need-sub-gone
 sub-gone c =
