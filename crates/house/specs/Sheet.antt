@@ -1,8 +1,8 @@
 -- "The count sheet is fed each command with its operands and its answer's code, and nothing else from the house. It holds today, the game, its
 -- balls, the six pools, the two debts, the nine figures, and a line for each accepted Sell, numbered from 1. It starts as a fresh house does,
 -- with seeds and pooled 1,350,000 and the other figures 0. On a code other than 0 nothing on it changes." With the house it shares the rule book
--- (`sale` and `prizes`, with a sale's operands and the record of a jackpot's pools), the commands as they are given (Command) and the names of the nine
--- figures (Figures), and no ticket, check or money move.
+-- (`sale` and `prizes`, with a sale's operands and the record of a jackpot's pools), the commands as they are given and the form of a reply (Command), and
+-- the names of the nine figures (Figures), and no ticket, check or money move.
 use Prim.Native.Nat.{ℕ, zero, suc, _+_, _-_}
 use mathlib.Core.Bool.{Bool, cond, not, _&&_}
 use mathlib.Core.List.{List, [], _∷_, _++_, map}
