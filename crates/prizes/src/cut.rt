@@ -3,6 +3,7 @@ use crate::prize::MAJOR_FLOOR;
 use numbers::order::max_u64;
 ghost use mathlib.Core.Path.{_≡_};
 ghost use Prim.Native.Nat.{_+_, _*_, _-_, _/_, _%_};
+ghost use Rattle.prizes.specs.Prize.{majorFloor};
 ghost use Rattle.prizes.specs.Bounds.{Payable, Cuttable, Divided};
 ghost use Rattle.prizes.specs.Rounds.{firstCut, uncut, payUnder, nextBelow};
 
@@ -92,7 +93,7 @@ impl Cut {
 // The floor × base / part, rounded up, with no product that could overflow.
 fn rounded_up(base: u64, part: u64) -> u64
     requires { ⌜ Divided base part ⌝ }
-    ensures { λ r. ⌜ r ≡ 20000 * (base / part) + (20000 * (base % part) + (part - 1)) / part ⌝ }
+    ensures { λ r. ⌜ r ≡ majorFloor * (base / part) + (majorFloor * (base % part) + (part - 1)) / part ⌝ }
 {
     MAJOR_FLOOR * (base / part) + (MAJOR_FLOOR * (base % part) + (part - 1)) / part
 }
