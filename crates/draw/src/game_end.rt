@@ -29,7 +29,8 @@ fn paid_row(mut row: Row, day: u64, game: u64, cents: u64) -> Row
     finished_on(day, game, row)
 }
 
-// Whether a ticket closes with what it is paid: nothing, and nothing was due. What is paid is tested first, since then no row has to be read.
+// Whether a ticket closes with what it is paid: one that is paid nothing closes if it is finished with nothing due, and any other stays. What is
+// paid is tested first, so that no row has to be read for those.
 fn closes(row: Row, game: u64, cents: u64) -> bool
     ensures { λ r. ⌜ ((day : ℕ) (m : List ℕ) → r ≡ not (isLive game (paidTicket day game cents (ticketFrom row m)))) ⌝ }
 {
