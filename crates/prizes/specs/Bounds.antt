@@ -1,5 +1,5 @@
 -- The bounds that some parts of prizes and jackpots ask of their callers, so that no sum or product passes 64 bits. Every sale (`Playable`) and
--- the laws on reached houses give them.
+-- the laws on reached houses give them. And the bound of a day that expiries are told by, which Expire's parts hand on.
 use Prim.Native.Nat.{ℕ, _*_, _≤_, _<_, _^_}
 use mathlib.Core.Path.{_≡_}
 use lib.Dec.{ltb}
