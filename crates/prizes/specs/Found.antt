@@ -3,7 +3,7 @@
 use Prim.Native.Nat.{ℕ, zero, suc, _+_, _*_, _-_, _/_, _%_, _^_, _≤_, _<_, min}
 use mathlib.Core.Path.{_≡_}
 use mathlib.Core.Bool.{Bool, cond}
-use mathlib.Core.List.{List, [], _∷_, map}
+use mathlib.Core.List.{List, [], _∷_, map, zipWith}
 use lib.Dec.{eqb}
 use lib.ListN.{length, drop, getD}
 use lib.Seq.{sets}
@@ -40,18 +40,19 @@ pub record Groups (table : List ℕ) : Type 0 where
   pub sizes : (k : ℕ) → sizeIn (getD table k 0) ≤ 255
   pub hits : (k : ℕ) → hitsIn (getD table k 0) ≤ 255
 
--- the sizes in a word, so many of them, and a table of groups of these sizes with no ball drawn
-abbrev pub wordSizes : ℕ → ℕ → List ℕ
-wordSizes zero word = []
-wordSizes (suc n) word = word % 256 ∷ wordSizes n (word / 256)
+-- the bytes of a word, so many of them, the lowest first: what `sizeWord` put there
+abbrev pub wordBytes : ℕ → ℕ → List ℕ
+wordBytes zero word = []
+wordBytes (suc n) word = word % 256 ∷ wordBytes n (word / 256)
 
-abbrev pub sizeTable : ℕ → List ℕ
-sizeTable word = 0 ∷ map (λ size. size * 4096) (wordSizes 8 word)
+-- a table of groups from the words of their sizes and of their hits
+abbrev pub groupTable : ℕ → ℕ → List ℕ
+groupTable sizes hits = 0 ∷ zipWith (λ size hit. size * 4096 + hit) (wordBytes 8 sizes) (wordBytes 8 hits)
 
 -- the table of a ticket's groups, from the word of their sizes and the ticket's marks
 pub record GroupsOf (word : ℕ) (draw : Draw) (marks table : List ℕ) : Type 0 where
   pub groups : Groups table
-  pub sizes : groupSizes table ≡ wordSizes 8 word
+  pub sizes : groupSizes table ≡ wordBytes 8 word
   pub hits : groupHits table ≡ hits draw marks
 
 -- what the walk carries to a place: the groups taken so far, added

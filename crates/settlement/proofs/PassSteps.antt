@@ -20,7 +20,7 @@ use Rattle.sale.specs.Ways.{sizes, sizeOf, sizeWord}
 use Rattle.prizes.specs.Hits.{hits}
 use Rattle.sale.specs.Bounds.{Playable}
 use Rattle.prizes.specs.Bounds.{ticketPrizesLimit}
-use Rattle.prizes.specs.Found.{groupSizes, groupHits, wordSizes, GroupsOf, FoundWith}
+use Rattle.prizes.specs.Found.{groupSizes, groupHits, wordBytes, GroupsOf, FoundWith}
 use Rattle.prizes.specs.Rounds.{payUnder, Pays, Listed, Raisable}
 use Rattle.prizes.specs.Settle.{prizesBy, fullBy}
 use Rattle.prizes.specs.declared.draw.Draw.{Draw}
@@ -29,7 +29,7 @@ use Rattle.prizes.specs.declared.found.Found.{Found}
 use Rattle.prizes.specs.declared.cut.Cut.{Cut}
 use Rattle.sale.proofs.KeepLaws.{length-keep-le, sum-within}
 use Rattle.sale.proofs.MarkLaws.{figure-le, length-byGroup}
-use Rattle.prizes.proofs.HitLaws.{word-sizes}
+use Rattle.prizes.proofs.HitLaws.{word-bytes}
 use Rattle.prizes.proofs.FoundLaws.{sets-append}
 use Rattle.prizes.proofs.CutPayouts.{payout-minor, payout-le}
 use Rattle.prizes.proofs.CutFloors.{keep-member, payout-floor, payout-many, paid-raised, paid-sure}
@@ -61,12 +61,12 @@ module _ (w : Row) (own : List ℕ) where
       }
 
   -- the sizes in its word are those of its marks
-  pub row-sizes : Sold (ticketFrom w own) → wordSizes 8 (w .sizes) ≡ sizes own
+  pub row-sizes : Sold (ticketFrom w own) → wordBytes 8 (w .sizes) ≡ sizes own
   row-sizes sold =
       let eighty : length own ≡ 80 = sold .playable .eighty in
-      ap (wordSizes 8) (sold .sized)
-      ∙ ap (λ n. wordSizes n (sizeWord (sizes own))) (sym (length-byGroup (sizeOf own)))
-      ∙ word-sizes (sizes own) (λ i. omega (arith, figure-le own i))
+      ap (wordBytes 8) (sold .sized)
+      ∙ ap (λ n. wordBytes n (sizeWord (sizes own))) (sym (length-byGroup (sizeOf own)))
+      ∙ word-bytes (sizes own) (λ i. omega (arith, figure-le own i))
 
   -- by whether the ticket runs
   module _ (game : ℕ) (draw : Draw) (before : ℕ) (majors : List ℕ) where
