@@ -1,19 +1,23 @@
 -- `tickets::claim::claim_ticket` meets its contract: the refusals are the table's rows in their order, and a claim removes the ticket, which with
 -- nothing due is finished and so closed.
-use Prim.Native.Nat.{ℕ, _+_, _-_, _^_, _<_}
+use Prim.Native.Nat.{ℕ, zero, suc, _+_, _-_, _^_, _<_}
+use native.Mathlib.Decide.{ℕ-discrete}
 use native.Mathlib.Omega.{arith}
-use mathlib.Core.Path.{_≡_, sym, ap, _∙_}
-use mathlib.Core.Bool.{true, false}
-use mathlib.Core.List.{List}
+use mathlib.Core.Path.{_≡_, refl, sym, ap, _∙_}
+use mathlib.Core.Bool.{true, false, cond}
+use mathlib.Core.List.{List, []}
+use lib.Dec.{eqb, eqb·suc-zero}
 use lib.ListN.{take}
 use borrow.Author.Needs.{needs}
+use borrow.Author.Tests.{eq-eqb, ne-eqb}
 use Rattle.sale.specs.Checks.{firstMet}
 use Rattle.house.specs.Tickets.{Ticket, gamesLeft, isFinished, isLive, withDue}
 use Rattle.house.specs.Model.{withPaid}
 use Rattle.house.specs.Commands.{ticketAt, changed, stillLive, claim, rowsOf, codeOf, claimed, act, reply}
 use Rattle.house.specs.Till.{tillOf}
-use Rattle.house.specs.View.{ticketsOf, without, view}
+use Rattle.house.specs.View.{marksAt, ticketFrom, ticketsOf, without, view}
 use Rattle.tickets.specs.Steps.{claimRows}
+use Rattle.tickets.specs.declared.lookup.Lookup.{Lookup}
 use Rattle.house.specs.declared.state.House.{House}
 use Rattle.house.specs.declared.rows.Row.{Row}
 use Rattle.house.proofs.Ledger.{withLive}
@@ -74,99 +78,106 @@ module _ {h : House} {words marks : List ℕ} {n p : ℕ} {w : Row} (found : Fou
       let paid : h .counters .paid < 2 ^ 62 = found .sure .fit .figures .paid in
       omega arith
 
+-- a look-up's refusal comes before the rest of the table
+module _ (code rest : ℕ) where
+  refused-first : (code ≡ 0 → ⊥) → cond (eqb code 0) rest code ≡ code
+  refused-first some = rw (ne-eqb code 0 some)
+
+  passed-first : code ≡ 0 → cond (eqb code 0) rest code ≡ rest
+  passed-first none = rw (eq-eqb code 0 none)
+
+looked-up : (code rest : ℕ) → cond (eqb code 0) rest code ≡ 0 → code ≡ 0
+looked-up zero rest e = refl
+looked-up (suc n) rest e = sym (ap (λ b. cond b rest (suc n)) (eqb·suc-zero n)) ∙ e
+
 -- ---- at the places of the code
 
--- where the ticket is found
-abbrev start : tie.Else1 → tie.Start
-start c = c .before .before .before .before
+abbrev start : tie.After-claim-code → tie.Start
+start c = c .before .before .before
 
-abbrev place : tie.Else1 → ℕ
-place c = c .before .before .look-up .result .place
-
-abbrev row : tie.Else1 → Row
-row c = c .before .before .look-up .result .row
+abbrev found : tie.After-claim-code → Lookup
+found c = c .before .look-up .result
 
 -- the command's code by its table
-abbrev table-code : tie.Else1 → ℕ
+abbrev table-code : tie.After-claim-code → ℕ
 table-code c = codeOf (view (start c .args .house) (start c .args .rows .now) (start c .args .marks .now)) (claim (start c .args .ticket))
 
-found-at : (c : tie.Else1) → FoundTicket (start c .args .house) (start c .args .rows .now) (start c .args .marks .now) (start c .args .ticket) (place c) (row c)
-found-at c =
+found-at : (c : tie.After-claim-code) → found c .code ≡ 0
+    → FoundTicket (start c .args .house) (start c .args .rows .now) (start c .args .marks .now) (start c .args .ticket) (found c .place) (found c .row)
+found-at c none =
     let args = start c .args in
-    let answer = c .before .before .look-up .ensures in
-    look-up-found (args .house) (args .rows .now) (args .marks .now) (args .ticket) (c .before .before .look-up .result) (answer .0 (args .marks .now))
-    (start c .pre) (c .if1 .left) (answer .1 .0 (args .marks .now)) (answer .1 .1 (args .marks .now))
+    let answer = c .before .look-up .ensures in
+    look-up-found (args .house) (args .rows .now) (args .marks .now) (args .ticket) (found c) (answer .0 (args .marks .now)) (start c .pre) none
+    (answer .1 .0 (args .marks .now)) (answer .1 .1 (args .marks .now))
 
-code-at : (c : tie.After-claim-code) → table-code (c .before .before) ≡ c .claim-code .result
-code-at c = rest-code (found-at (c .before .before)) ∙ sym (c .claim-code .ensures _)
+-- the code found is the table's, by whether the look-up refuses
+code-by : (c : tie.After-claim-code) → Dec (found c .code ≡ 0) → table-code c ≡ c .claim-code .result
+unfolding codeOf rowsOf
+code-by c (yes none) =
+    rest-code (found-at c none) ∙ sym (c .claim-code .ensures (marksAt (start c .args .marks .now) (found c .place)) ∙ passed-first (found c .code) (firstMet (claimRows (start c .args .house .game) (ticketWith (found c .row) (start c .args .marks .now) (found c .place)))) none)
+code-by c (no some) =
+    let args = start c .args in
+    look-up-refused (args .house) (args .rows .now) (args .marks .now) (args .ticket) (found c) (c .before .look-up .ensures .0 (args .marks .now)) some _
+    ∙ sym (c .claim-code .ensures [] ∙ refused-first (found c .code) (firstMet (claimRows (start c .args .house .game) (ticketFrom (found c .row) []))) some)
+
+code-at : (c : tie.After-claim-code) → table-code c ≡ c .claim-code .result
+code-at c = code-by c (ℕ-discrete (found c .code) 0)
+
+-- a claim that is not refused has found its ticket
+accepted-at : (c : tie.After-claim-code) → c .claim-code .result ≡ 0
+    → FoundTicket (start c .args .house) (start c .args .rows .now) (start c .args .marks .now) (start c .args .ticket) (found c .place) (found c .row)
+accepted-at c passed = found-at c (looked-up (found c .code) _ (sym (c .claim-code .ensures []) ∙ passed))
 
 look-up-requires : tie.Need-look-up-requires
 look-up-requires c κs = record { marks = c .before .args .marks .now; reached = c .before .pre }
 
-refused-requires : tie.Need-refused-requires
-refused-requires c κs = search needs
-
-returns : tie.Need-returns
-unfolding codeOf rowsOf
-returns c =
-    let args = c .before .before .before .before .before .args in
-    let answer = c .before .before .before .look-up in
-    carried-refused (args .house) (args .rows .now) (args .marks .now) (claim (args .ticket)) (answer .result .code) _ _
-    (look-up-refused (args .house) (args .rows .now) (args .marks .now) (args .ticket) (answer .result) (answer .ensures .0 (args .marks .now)) (c .before .if1 .taken) _)
-    (c .before .if1 .taken) (c .refused .ensures .0) (c .refused .ensures .1)
-
 claim-code-requires : tie.Need-claim-code-requires
 claim-code-requires c κs = search needs
 
-refused-requires-2 : tie.Need-refused-requires-2
-refused-requires-2 c κs = search needs
-
-returns-2 : tie.Need-returns-2
-returns-2 c =
-    let args = start (c .before .before .before .before) .args in
-    carried-refused (args .house) (args .rows .now) (args .marks .now) (claim (args .ticket)) (c .before .before .claim-code .result) _ _
-    (code-at (c .before .before)) (c .before .if2 .taken) (c .refused2 .ensures .0) (c .refused2 .ensures .1)
+refused-requires : tie.Need-refused-requires
+refused-requires c κs = search needs
 
 remove-ticket-requires : tie.Need-remove-ticket-requires
 remove-ticket-requires c κs =
-    let found = found-at (c .before .before .before .before .before) in
-    record { within = found-within found; few = found-few found }
+    let then = c .before .before .before in
+    let here = accepted-at (then .before .before) (then .if1 .taken) in
+    record { within = found-within here; few = found-few here }
 
 sub-live : tie.Need-sub-live
-sub-live c = omega (arith, found-within (found-at (c .before .before .before .before .before .before .before)))
+sub-live c =
+    let then = c .before .before .before .before .before in
+    omega (arith, found-within (accepted-at (then .before .before) (then .if1 .taken)))
 
 add-paid : tie.Need-add-paid
-add-paid c = omega (arith, room (found-at (c .before .before .before .before .before .before .before .before .before)))
+add-paid c =
+    let then = c .before .before .before .before .before .before .before in
+    omega (arith, room (accepted-at (then .before .before) (then .if1 .taken)))
 
 accepted-requires : tie.Need-accepted-requires
 accepted-requires c κs = search needs
 
-returns-3 : tie.Need-returns-3
+returns : tie.Need-returns
 unfolding reply
-returns-3 c =
+returns c =
     let removed = c .before .before .before .before .before .remove-ticket in
-    let passing = c .before .before .before .before .before .before .before .before in
-    let here = passing .before .before .before in
-    let found = found-at here in
-    let args = start here .args in
-    let passed = code-at (passing .before) ∙ passing .if2 .left in
+    let then = c .before .before .before .before .before .before .before .before .before in
+    let coded = then .before .before in
+    let here = accepted-at coded (then .if1 .taken) in
+    let args = start coded .args in
+    let passed = code-at coded ∙ then .if1 .taken in
     carried-done (args .house) (args .rows .now) (args .marks .now) (claim (args .ticket)) _ _ _ _ passed
     (ap (λ h. view h (removed .last .0) (removed .last .1 .0)) (c .accepted .ensures .0)
-    ∙ model-claimed found _ _ passed (removed .ensures))
-    (c .accepted .ensures .1 ∙ ap (λ t. record { code = 0; number = args .ticket; cents = t .due }) (sym (found-ticket found)))
+    ∙ model-claimed here _ _ passed (removed .ensures))
+    (c .accepted .ensures .1 ∙ ap (λ t. record { code = 0; number = args .ticket; cents = t .due }) (sym (found-ticket here)))
+
+returns-2 : tie.Need-returns-2
+returns-2 c =
+    let coded = c .before .before in
+    let args = start coded .args in
+    carried-refused (args .house) (args .rows .now) (args .marks .now) (claim (args .ticket)) (coded .claim-code .result) _ _
+    (code-at coded) (c .if1 .left) (c .before .refused .ensures .0) (c .before .refused .ensures .1)
 
 pub claim-ticket-spec : {M : Type 1} → statement M
 claim-ticket-spec =
     tie.close
-    (tie.spec
-    look-up-requires
-    refused-requires
-    returns
-    claim-code-requires
-    refused-requires-2
-    returns-2
-    remove-ticket-requires
-    sub-live
-    add-paid
-    accepted-requires
-    returns-3)
+    (tie.spec look-up-requires claim-code-requires refused-requires remove-ticket-requires sub-live add-paid accepted-requires returns returns-2)
