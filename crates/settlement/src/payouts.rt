@@ -134,7 +134,7 @@ fn raise_all(live: usize, ends: &[u64; 200], majors: &[u64; 250], cut: Cut, paid
     }
 }
 
-// Fills the first places of `paid` and `full`, one for each live ticket.
+// Fills the first places of `paid` and `full`, one for each live ticket. Where there is none, no table is made.
 pub(crate) fn find_prizes(
     house: House,
     rows: &[u64; 3200],
@@ -147,6 +147,9 @@ pub(crate) fn find_prizes(
     ensures { λ r. ⌜ Prized (view house (now (rows .entry)) (now (marks .entry))) draw (now (paid .exit)) (now (full .exit)) ⌝ }
 {
     let live = house.live as usize;
+    if live == 0 {
+        return;
+    }
     let game = house.game;
     let mut ends = [0u64; 200];
     let mut majors = [0u64; 250];
