@@ -110,15 +110,20 @@ found-at c none =
     look-up-found (args .house) (args .rows .now) (args .marks .now) (args .ticket) (found c) (answer .0 (args .marks .now)) (start c .pre) none
     (answer .1 .0 (args .marks .now)) (answer .1 .1 (args .marks .now))
 
+-- what the rows below the look-up's say of the row found, with any marks
+abbrev rest : tie.After-claim-code → List ℕ → ℕ
+rest c marks = firstMet (claimRows (start c .args .house .game) (ticketFrom (found c .row) marks))
+
 -- the code found is the table's, by whether the look-up refuses
 code-by : (c : tie.After-claim-code) → Dec (found c .code ≡ 0) → table-code c ≡ c .claim-code .result
 unfolding codeOf rowsOf
 code-by c (yes none) =
-    rest-code (found-at c none) ∙ sym (c .claim-code .ensures (marksAt (start c .args .marks .now) (found c .place)) ∙ passed-first (found c .code) (firstMet (claimRows (start c .args .house .game) (ticketWith (found c .row) (start c .args .marks .now) (found c .place)))) none)
+    let marks = marksAt (start c .args .marks .now) (found c .place) in
+    rest-code (found-at c none) ∙ sym (c .claim-code .ensures marks ∙ passed-first (found c .code) (rest c marks) none)
 code-by c (no some) =
     let args = start c .args in
     look-up-refused (args .house) (args .rows .now) (args .marks .now) (args .ticket) (found c) (c .before .look-up .ensures .0 (args .marks .now)) some _
-    ∙ sym (c .claim-code .ensures [] ∙ refused-first (found c .code) (firstMet (claimRows (start c .args .house .game) (ticketFrom (found c .row) []))) some)
+    ∙ sym (c .claim-code .ensures [] ∙ refused-first (found c .code) (rest c []) some)
 
 code-at : (c : tie.After-claim-code) → table-code c ≡ c .claim-code .result
 code-at c = code-by c (ℕ-discrete (found c .code) 0)
