@@ -151,9 +151,9 @@ wulipday_till_figures wulipday_till(wulipday_house house, const uint64_t rows[WU
 /* The pools and the debt of each jackpot. */
 wulipday_jackpots wulipday_pools(wulipday_house house);
 
-/* Writes the number of each live ticket once, 4 bytes each, high byte first, in
- * no particular order. Refused with 30, and nothing written, when out is too
- * short. Bytes beyond the list are untouched. */
+/* Writes the numbers of the live tickets in rising order, each once, 4 bytes
+ * each, high byte first. Bytes beyond the list stay as they were. Refused with
+ * 30, and nothing written, when out is too short. */
 wulipday_listed wulipday_live_list(wulipday_house house, const uint64_t rows[WULIPDAY_WORDS],
                                    uint8_t *out, size_t out_length);
 

@@ -1,6 +1,7 @@
 /* A host in C: document 01's printed roll, one command at a time and in one roll,
- * a game with a winner and two jackpot hits, and every stop and refusal of the
- * boundary. Ends with 0, or with 1 and a message for each check that fails. */
+ * a game with a winner and two jackpot hits, the live list after whatever issues
+ * or closes tickets, and every stop and refusal of the boundary. Ends with 0, or
+ * with 1 and a message for each check that fails. */
 #include "wulipday.h"
 
 #include <stdio.h>
@@ -8,6 +9,10 @@
 
 #define BLANK 0xA5
 #define SALE_BYTES 89
+#define MOST_LIVE 200
+/* Bytes of a buffer beyond its live list, lent or not. */
+#define BEYOND 16
+#define LIST_BYTES (4 * MOST_LIVE + BEYOND)
 
 static int failures = 0;
 
@@ -85,6 +90,26 @@ static void write_sale(uint8_t sale[SALE_BYTES], uint8_t kind, uint8_t stake, ui
     memset(sale, 0, SALE_BYTES);
     memcpy(sale, operands, sizeof operands);
     memset(sale + sizeof operands + first - 1, 1, numbers);
+}
+
+/* A ticket on one number at 100 a game, with the ticket number it is to get. */
+static bool sells(lounge *lounge, uint8_t number, uint8_t games, uint32_t ticket)
+{
+    uint8_t sale[SALE_BYTES];
+    write_sale(sale, 0, 100, number, 1);
+    sale[2] = games;
+    return gives(lounge, sale, SALE_BYTES, (answer){2, 0, ticket, 100 * (uint64_t)games});
+}
+
+/* Balls 1 to 20, with what is won in the game. */
+static bool draws(lounge *lounge, uint64_t won)
+{
+    bool holds = true;
+    for (uint8_t number = 1; number <= 20; number++) {
+        const uint8_t ball[] = {4, number};
+        holds &= gives(lounge, ball, 2, (answer){4, 0, number, number == 20 ? won : 0});
+    }
+    return holds;
 }
 
 static const uint8_t open_day_1[] = {1, 0, 1};
@@ -212,18 +237,128 @@ static void full_book(lounge *lounge)
     CHECK(report.house.day == 0 && all_blank(book, sizeof book));
 }
 
-static void check_live_list(const lounge *lounge)
+/* The numbers, and blank bytes to the end. */
+static void write_list(uint8_t list[LIST_BYTES], const uint32_t *numbers, size_t count)
 {
-    uint8_t list[12];
+    memset(list, BLANK, LIST_BYTES);
+    for (size_t place = 0; place < count; place++)
+        for (size_t byte = 0; byte < 4; byte++)
+            list[4 * place + byte] = (uint8_t)(numbers[place] >> (24 - 8 * byte));
+}
+
+/* The list in so many lent bytes. The whole buffer is compared, also what of it
+ * was not lent. */
+static bool lists_in(const lounge *lounge, size_t room, wulipday_listed expected,
+                     const uint8_t expected_list[LIST_BYTES])
+{
+    uint8_t list[LIST_BYTES];
     memset(list, BLANK, sizeof list);
-    wulipday_listed refused = wulipday_live_list(lounge->house, lounge->rows, list, 7);
-    CHECK(refused.code == 30 && refused.count == 0 && all_blank(list, sizeof list));
-    wulipday_listed listed = wulipday_live_list(lounge->house, lounge->rows, list, sizeof list);
-    uint64_t one = high_byte_first(list, 4);
-    uint64_t other = high_byte_first(list + 4, 4);
-    CHECK(listed.code == 0 && listed.count == 2);
-    CHECK((one == 1 && other == 2) || (one == 2 && other == 1));
-    CHECK(all_blank(list + 8, 4));
+    wulipday_listed listed = wulipday_live_list(lounge->house, lounge->rows, list, room);
+    return listed.code == expected.code && listed.count == expected.count
+        && memcmp(list, expected_list, sizeof list) == 0;
+}
+
+/* These tickets are live: listed where just their bytes are lent and where more are,
+ * refused with fewer, and then nothing is written. */
+static bool lists(const lounge *lounge, const uint32_t *numbers, size_t count)
+{
+    const wulipday_listed all = {.code = 0, .count = (uint32_t)count};
+    const wulipday_listed refused = {.code = 30, .count = 0};
+    const size_t bytes = 4 * count;
+    uint8_t list[LIST_BYTES];
+    uint8_t untouched[LIST_BYTES];
+    write_list(list, numbers, count);
+    write_list(untouched, numbers, 0);
+    bool holds = true;
+    for (size_t room = 0; room < bytes; room++)
+        holds &= lists_in(lounge, room, refused, untouched);
+    for (size_t room = bytes; room <= bytes + BEYOND; room++)
+        holds &= lists_in(lounge, room, all, list);
+    return holds;
+}
+
+#define CHECK_LISTS(lounge, ...) \
+    check(lists(lounge, (const uint32_t[]){__VA_ARGS__}, \
+                sizeof (const uint32_t[]){__VA_ARGS__} / sizeof (uint32_t)), \
+          __LINE__, "live list " #__VA_ARGS__)
+
+static void nothing_live(lounge *lounge)
+{
+    const uint32_t none[] = {0};
+    open_lounge(lounge);
+    CHECK(lists(lounge, none, 0));
+    CHECK(gives(lounge, open_day_1, 3, (answer){1, 0, 1, 0}));
+    CHECK(lists(lounge, none, 0));
+    CHECK(sells(lounge, 1, 1, 1));
+    CHECK_LISTS(lounge, 1);
+    CHECK(gives(lounge, cancel_1, 5, (answer){3, 0, 1, 100}));
+    CHECK(lists(lounge, none, 0));
+}
+
+/* Number 1 is drawn, for 300, and number 80 is not. */
+static void sell_eight(lounge *lounge)
+{
+    static const struct {
+        uint8_t number;
+        uint8_t games;
+    } tickets[] = {{1, 2}, {1, 1}, {80, 1}, {1, 1}, {1, 1}, {80, 1}, {1, 2}, {1, 1}};
+    for (uint32_t place = 0; place < 8; place++)
+        CHECK(sells(lounge, tickets[place].number, tickets[place].games, place + 1));
+}
+
+/* Each time, tickets with lower and with higher numbers stay. */
+static void closed_in_the_middle(lounge *lounge)
+{
+    static const uint8_t cancel_4[] = {3, 0, 0, 0, 4};
+    static const uint8_t claim_5[] = {5, 0, 0, 0, 5};
+    static const uint8_t open_day_2[] = {1, 0, 2};
+    static const uint8_t open_day_366[] = {1, 1, 110};
+    static const uint8_t open_day_367[] = {1, 1, 111};
+    static const uint8_t expire[] = {6};
+    open_lounge(lounge);
+    CHECK(gives(lounge, open_day_1, 3, (answer){1, 0, 1, 0}));
+    sell_eight(lounge);
+    CHECK_LISTS(lounge, 1, 2, 3, 4, 5, 6, 7, 8);
+    CHECK(gives(lounge, cancel_4, 5, (answer){3, 0, 4, 100}));
+    CHECK_LISTS(lounge, 1, 2, 3, 5, 6, 7, 8);
+    CHECK(draws(lounge, 5 * 300));
+    CHECK_LISTS(lounge, 1, 2, 5, 7, 8);
+    CHECK(gives(lounge, claim_5, 5, (answer){5, 0, 5, 300}));
+    CHECK_LISTS(lounge, 1, 2, 7, 8);
+    CHECK(gives(lounge, open_day_2, 3, (answer){1, 0, 2, 0}));
+    CHECK(draws(lounge, 2 * 300));
+    CHECK(gives(lounge, open_day_366, 3, (answer){1, 0, 366, 0}));
+    CHECK(gives(lounge, expire, 1, (answer){6, 0, 0, 0}));
+    CHECK_LISTS(lounge, 1, 2, 7, 8);
+    CHECK(sells(lounge, 1, 1, 9));
+    /* 2 and 8 were finished on day 1, 1 and 7 on day 2. */
+    CHECK(gives(lounge, open_day_367, 3, (answer){1, 0, 367, 0}));
+    CHECK(gives(lounge, expire, 1, (answer){6, 0, 2, 600}));
+    CHECK_LISTS(lounge, 1, 7, 9);
+    CHECK(sells(lounge, 1, 1, 10));
+    CHECK_LISTS(lounge, 1, 7, 9, 10);
+}
+
+/* Tickets 1 to 200; then the odd ones have lost, and 100 more are sold. */
+static void two_hundred_live(lounge *lounge)
+{
+    uint32_t numbers[MOST_LIVE];
+    open_lounge(lounge);
+    CHECK(gives(lounge, open_day_1, 3, (answer){1, 0, 1, 0}));
+    for (uint32_t ticket = 1; ticket <= MOST_LIVE; ticket++) {
+        CHECK(sells(lounge, ticket % 2 == 0 ? 1 : 80, 1, ticket));
+        numbers[ticket - 1] = ticket;
+    }
+    CHECK(lists(lounge, numbers, MOST_LIVE));
+    CHECK(draws(lounge, 100 * 300));
+    for (uint32_t place = 0; place < 100; place++)
+        numbers[place] = 2 * (place + 1);
+    CHECK(lists(lounge, numbers, 100));
+    for (uint32_t place = 100; place < MOST_LIVE; place++) {
+        numbers[place] = place + 101;
+        CHECK(sells(lounge, 1, 1, numbers[place]));
+    }
+    CHECK(lists(lounge, numbers, MOST_LIVE));
 }
 
 /* Document 01: sixes at 100 and 200 hit, 33,349 and 66,696. */
@@ -236,11 +371,8 @@ static void shared_jackpot(lounge *lounge)
     CHECK(gives(lounge, sale, SALE_BYTES, (answer){2, 0, 1, 100}));
     write_sale(sale, 1, 200, 1, 6);
     CHECK(gives(lounge, sale, SALE_BYTES, (answer){2, 0, 2, 200}));
-    check_live_list(lounge);
-    for (uint8_t number = 1; number <= 20; number++) {
-        const uint8_t ball[] = {4, number};
-        CHECK(gives(lounge, ball, 2, (answer){4, 0, number, number == 20 ? 100045 : 0}));
-    }
+    CHECK_LISTS(lounge, 1, 2);
+    CHECK(draws(lounge, 100045));
     wulipday_jackpots pools = wulipday_pools(lounge->house);
     CHECK(pools.six.primary == 100000 && pools.six.secondary == 0);
     CHECK(pools.six.reimbursement == 0 && pools.six.debt == 100000 + 99985 - 15);
@@ -261,10 +393,7 @@ static void losing_house(lounge *lounge)
     CHECK(gives(lounge, open_day_1, 3, (answer){1, 0, 1, 0}));
     write_sale(sale, 0, 100, 1, 15);
     CHECK(gives(lounge, sale, SALE_BYTES, (answer){2, 0, 1, 100}));
-    for (uint8_t number = 1; number <= 20; number++) {
-        const uint8_t ball[] = {4, number};
-        CHECK(gives(lounge, ball, 2, (answer){4, 0, number, number == 20 ? 5000000 : 0}));
-    }
+    CHECK(draws(lounge, 5000000));
     wulipday_till_figures till = wulipday_till(lounge->house, lounge->rows);
     CHECK(till.owed == 5000000 && till.retained == 4999900 && till.negative);
 }
@@ -277,6 +406,9 @@ int main(void)
     command_with_bytes_behind(&lounge);
     no_command(&lounge);
     full_book(&lounge);
+    nothing_live(&lounge);
+    closed_in_the_middle(&lounge);
+    two_hundred_live(&lounge);
     shared_jackpot(&lounge);
     losing_house(&lounge);
     if (failures > 0) {

@@ -76,7 +76,7 @@ pub extern "C" fn wulipday_pools(house: House) -> Pools
     pools_of(house)
 }
 
-// The numbers of the live tickets, four bytes each.
+// The numbers of the live tickets, rising, four bytes each, or code 30 where the buffer is too short.
 #[no_mangle]
 pub extern "C" fn wulipday_live_list(house: House, rows: &[u64; 3200], out: &mut [u8]) -> Listed
     requires { ⌜ ComesWith house (now rows) ⌝ }

@@ -1,2 +1,3 @@
 pub mod TillLaws
+pub mod ListOrder
 pub mod ListingLaws

@@ -1,59 +1,33 @@
--- The live list's laws: the numbers of a house's rows stand once each, fit four bytes, and are written one after another.
-use Prim.Native.Nat.{ℕ, suc, _+_, _-_, _*_, _≤_, _<_, _^_}
+-- The live list's laws: the numbers of a house's rows are the live tickets', rise and fit four bytes, and are written one after another.
+use Prim.Native.Nat.{ℕ, _+_, _*_, _≤_, _<_, _^_}
 use mathlib.Core.Path.{_≡_, refl, sym, ap, _∙_, subst}
-use mathlib.Core.Bool.{Bool, true, false, cond, _||_}
 use mathlib.Core.List.{List, [], _∷_, _++_, map, map-map, map-append, append-assoc}
 use native.Mathlib.Numerals.{add-one}
 use native.Mathlib.Omega.{arith}
-use borrow.Author.Tests.{eqb-true, ne-eqb, lt-ltb, le-ltb}
-use lib.Dec.{eqb}
+use borrow.Author.Tests.{lt-ltb, le-ltb}
 use lib.ListN.{length, take, drop}
 use lib.Seq.{take-at, drop-append-add, drop-drop}
 use Rattle.numbers.specs.Bytes.{bytesOf}
-use Rattle.sale.specs.Lists.{keep, any, member, below}
-use Rattle.house.specs.Tickets.{Ticket}
+use Rattle.sale.specs.Lists.{below}
+use Rattle.house.specs.Model.{Model}
 use Rattle.house.specs.Commands.{blankTicket}
 use Rattle.house.specs.View.{rowAt, ticketIn, view}
 use Rattle.house.specs.Parts.{ComesWith}
-use Rattle.queries.specs.Listing.{listBytes, Listing}
+use Rattle.queries.specs.Listing.{liveNumbers, listBytes, listAnswer, listBuffer, Rises, Listing}
+use Rattle.queries.specs.declared.live_list.Listed.{Listed}
 use Rattle.house.specs.declared.state.House.{House}
-use Rattle.house.proofs.Ledger.{All}
-use Rattle.house.proofs.RisingNumbers.{Rising, all-at}
+use Rattle.house.proofs.RisingNumbers.{all-at}
 use Rattle.house.proofs.RowLists.{getD-table, length-table}
 use Rattle.house.proofs.ViewLaws.{live-count}
 use Rattle.queries.proofs.TillLaws.{comes-sure}
-
--- ---- numbers that rise stand once each
-
-abbrev numbersOf : List Ticket → List ℕ
-numbersOf ts = map (λ t. t .number) ts
-
-none-above : (n k : ℕ) → n ≤ k → (ts : List Ticket) → All (λ u. k < u .number) ts → length (keep (eqb n) (numbersOf ts)) ≡ 0
-unfolding keep
-none-above n k h [] above = refl
-none-above n k h (t ∷ ts) (over, above) =
-    rw (ne-eqb n (t .number) (λ e. omega arith)) (none-above n k h ts above)
-
-pub rising-once : (n : ℕ) (ts : List Ticket) → Rising ts → length (keep (eqb n) (numbersOf ts)) ≡ cond (member n (numbersOf ts)) 1 0
-unfolding keep member any
-rising-once n [] rising = refl
-rising-once n (t ∷ ts) (above, rising) = go (eqb n (t .number)) refl (rising-once n ts rising)
-  where
-    go :
-        (test : Bool)
-        → eqb n (t .number) ≡ test
-        → length (keep (eqb n) (numbersOf ts)) ≡ cond (any (eqb n) (numbersOf ts)) 1 0
-        → length (cond test (t .number ∷ keep (eqb n) (numbersOf ts)) (keep (eqb n) (numbersOf ts)))
-        ≡ cond (test || any (eqb n) (numbersOf ts)) 1 0
-    go true e rest = ap suc (none-above n (t .number) (omega (arith, eqb-true n (t .number) e)) ts above)
-    go false e rest = rest
+use Rattle.queries.proofs.ListOrder.{one-content, reached-rises}
 
 -- ---- the rows of a house that comes from a fresh one by commands
 
 abbrev pub numberAt : List ℕ → ℕ → ℕ
 numberAt words i = rowAt words i .number
 
-pub numbers-rows : (h : House) (words marks : List ℕ) → numbersOf (view h words marks .live) ≡ map (numberAt words) (below (h .live))
+pub numbers-rows : (h : House) (words marks : List ℕ) → liveNumbers (view h words marks) ≡ map (numberAt words) (below (h .live))
 unfolding view
 numbers-rows h words marks = map-map (λ t. t .number) (ticketIn words marks) (below (h .live))
 
@@ -68,12 +42,11 @@ module _ (h : House) (words : List ℕ) (comes : ComesWith h words) where
       (all-at (λ t. (1 ≤ t .number) × (t .number ≤ h .issued)) (m .live) (known .numbered) i blankTicket (omega (arith, live-count h words (comes .marks)))) in
       omega (arith, bounded .1, known .issued)
 
-  pub numbers-once : (marks : List ℕ) (n : ℕ)
-      → length (keep (eqb n) (map (numberAt words) (below (h .live)))) ≡ cond (member n (numbersOf (view h words marks .live))) 1 0
-  numbers-once marks n =
-      ap (λ ns. length (keep (eqb n) ns)) (sym (numbers-rows h words (comes .marks)))
-      ∙ rising-once n (view h words (comes .marks) .live) (comes-sure h words comes .rising)
-      ∙ ap (λ ns. cond (member n ns) 1 0) (numbers-rows h words (comes .marks) ∙ sym (numbers-rows h words marks))
+  -- the numbers rise, whichever marks stand beside the words
+  pub numbers-rise : (marks : List ℕ) → Rises (liveNumbers (view h words marks))
+  numbers-rise marks =
+      subst Rises (numbers-rows h words (comes .marks) ∙ sym (numbers-rows h words marks))
+      (reached-rises (view h words (comes .marks)) (comes .reached))
 
 -- ---- numbers written one after another
 
@@ -134,39 +107,35 @@ module _ (f : ℕ → ℕ) (n : ℕ) (out : List ℕ) where
 
 -- ---- the list asked for
 
-module _ (h : House) (words marks before : List ℕ) where
-  abbrev live : ℕ
-  live = length (view h words marks .live)
+module _ (h : House) (words : List ℕ) (comes : ComesWith h words) (marks before : List ℕ) where
+  abbrev m : Model
+  m = view h words marks
 
-  pub listing-refused : length before < h .live * 4 → Listing (view h words marks) before before (record { code = 30; count = 0 })
+  -- an answer and a buffer that are the definition's
+  listing : (after : List ℕ) (r : Listed) → r ≡ listAnswer m before → after ≡ listBuffer m before → Listing m before after r
+  listing after r answer buffer =
+      record { answer = answer; buffer = buffer; content = one-content m (numbers-rise h words comes marks) }
+
+  pub listing-refused : length before < h .live * 4 → Listing m before before (record { code = 30; count = 0 })
+  unfolding listAnswer listBuffer
   listing-refused short =
-      let few : length before < 4 * live = omega (arith, live-count h words marks) in
-      record {
-        code = rw (lt-ltb (length before) (4 * live) few);
-        refused = λ _. (refl, refl);
-        listed = λ none. absurd (omega arith);
-      }
+      let few : length before < 4 * length (m .live) = omega (arith, live-count h words marks) in
+      let test = lt-ltb (length before) (4 * length (m .live)) few in
+      listing before (record { code = 30; count = 0 }) (rw test refl) (rw test refl)
 
   pub listing-written :
-      ComesWith h words
-      → h .live * 4 ≤ length before
+      h .live * 4 ≤ length before
       → (after : List ℕ)
       → after ≡ listBytes (map (numberAt words) (below (h .live))) ++ drop (4 * h .live) before
-      → Listing (view h words marks) before after (record { code = 0; count = h .live })
-  listing-written comes room after written =
-      let count : h .live ≡ live = sym (live-count h words marks) in
-      let enough : 4 * live ≤ length before = omega arith in
-      record {
-        code = rw (le-ltb (length before) (4 * live) enough);
-        refused = λ some. absurd (some refl);
-        listed =
-            λ _. (
-              count,
-              record {
-                numbers = map (numberAt words) (below (h .live));
-                bytes = written ∙ ap (λ n. listBytes (map (numberAt words) (below (h .live))) ++ drop (4 * n) before) count;
-                many = length-table (numberAt words) (h .live) ∙ count;
-                once = numbers-once h words comes marks;
-              },
-            );
-      }
+      → Listing m before after (record { code = 0; count = h .live })
+  unfolding listAnswer listBuffer
+  listing-written room after written =
+      let count : h .live ≡ length (m .live) = sym (live-count h words marks) in
+      let enough : 4 * length (m .live) ≤ length before = omega arith in
+      let test = le-ltb (length before) (4 * length (m .live)) enough in
+      listing after (record { code = 0; count = h .live })
+      (rw test (ap (λ n. record { code = 0; count = n }) count))
+      (rw test
+      (written
+      ∙ ap (λ ns. listBytes ns ++ drop (4 * h .live) before) (sym (numbers-rows h words marks))
+      ∙ ap (λ n. listBytes (liveNumbers m) ++ drop (4 * n) before) count))

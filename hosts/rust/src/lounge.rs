@@ -98,14 +98,12 @@ impl Lounge {
         let mut list = [0; LIVE_LIST_BYTES];
         let count = self.live_list(&mut list).expect("200 tickets have room");
         let four = |bytes: &[u8]| u32::from_be_bytes(bytes.try_into().expect("4 bytes"));
-        let mut numbers: Vec<u32> = list.chunks(4).take(count as usize).map(four).collect();
-        numbers.sort_unstable();
-        numbers
+        list.chunks(4).take(count as usize).map(four).collect()
     }
 
-    /// Writes the number of each live ticket once, 4 bytes each, high byte first,
-    /// in no particular order, and answers how many there are. Refused, with
-    /// nothing written, where `out` is too short.
+    /// Writes the numbers of the live tickets in rising order, 4 bytes each, high
+    /// byte first, and answers how many there are; bytes beyond the list stay as
+    /// they were. Refused, with nothing written, where `out` is too short.
     pub fn live_list(&self, out: &mut [u8]) -> Result<u32, Refusal> {
         let listed = self.core.live_list(out);
         match Refusal::from_number(listed.code) {

@@ -1,5 +1,5 @@
-//! The traps of "Settled examples", as wrong turns this crate can be told to
-//! take.
+//! The traps of "Settled examples" and places like them, as wrong turns this
+//! crate can be told to take.
 //!
 //! A check that a flawed house passes as well checks nothing. Each flaw breaks
 //! the house in one place, so the checks themselves can be put to the test.
@@ -20,15 +20,18 @@ pub enum Flaw {
     PoolsAtSale,
     /// The odd cents of a shared jackpot go to the last winning ways.
     OddCentsToLast,
+    /// The live list begins with the highest number.
+    FallingLiveList,
 }
 
 impl Flaw {
     /// The flaws proper, without [`Flaw::None`].
-    pub const ALL: [Flaw; 5] = [
+    pub const ALL: [Flaw; 6] = [
         Flaw::SettlesOneGameMore,
         Flaw::OneCutRound,
         Flaw::CappedJackpot,
         Flaw::PoolsAtSale,
         Flaw::OddCentsToLast,
+        Flaw::FallingLiveList,
     ];
 }

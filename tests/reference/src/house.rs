@@ -251,11 +251,17 @@ impl House {
         Ok((u32::from(jackpot), pools.primary))
     }
 
-    /// Writes the number of each live ticket, 4 bytes each, high byte first,
-    /// and answers how many there are. No command: it asks for no day.
+    /// Writes the numbers of the live tickets in rising order, 4 bytes each,
+    /// high byte first, and answers how many there are. The buffer beyond them is
+    /// untouched. No command: it asks for no day.
     pub fn live_list(&self, buffer: &mut [u8]) -> Result<u32, u8> {
-        let numbers: Vec<u32> = self.live_tickets().map(|ticket| ticket.number).collect();
+        let mut numbers: Vec<u32> = self.live_tickets().map(|ticket| ticket.number).collect();
         met(buffer.len() < 4 * numbers.len(), refusal::SHORT_BUFFER)?;
+
+        numbers.sort_unstable();
+        if self.flaw == Flaw::FallingLiveList {
+            numbers.reverse();
+        }
         for (place, number) in buffer.chunks_exact_mut(4).zip(&numbers) {
             place.copy_from_slice(&number.to_be_bytes());
         }
@@ -401,5 +407,18 @@ mod tests {
         let before = house.clone();
         assert_eq!(house.command(&Command::Claim { ticket: 1 }), Answer::refused(24));
         assert!(house == before);
+    }
+
+    /// Tickets are kept as they were sold, so these are put out of order by hand.
+    #[test]
+    fn the_live_list_rises_however_tickets_are_kept() {
+        let mut house = House::seasoned(1, 0, 0);
+        for _ticket in 1..=3 {
+            house.command(&Command::sell(0, 1, 100, &[&[1]], 1));
+        }
+        house.tickets.rotate_left(1);
+        let mut buffer = [7; 14];
+        assert_eq!(house.live_list(&mut buffer), Ok(3));
+        assert_eq!(buffer, [0, 0, 0, 1, 0, 0, 0, 2, 0, 0, 0, 3, 7, 7]);
     }
 }

@@ -17,6 +17,7 @@ fn must_find(flaw: Flaw) -> &'static [&'static str] {
             &["a cancel leaves nothing in the pools", "each drawn game contributes by itself"]
         }
         Flaw::OddCentsToLast => &["sixes at 100 and 200 hit", "odd cents go to the first ways"],
+        Flaw::FallingLiveList => &["the live list rises"],
     }
 }
 

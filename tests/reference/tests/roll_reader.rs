@@ -1,5 +1,5 @@
-//! "The roll": the four stops, the records, the untouched rest of the book,
-//! the program's print and the live list.
+//! "The roll": the four stops, the records, the untouched rest of the book and
+//! the program's print.
 
 mod checks;
 
@@ -167,26 +167,4 @@ fn the_ledger_reads_65_536_bytes() {
     let mut unknown = vec![0x06; LEDGER_BYTES];
     unknown.push(0xFF);
     assert!(ledger(&unknown).contains("\nstop 0\n"));
-}
-
-#[test]
-fn the_live_list() {
-    let mut house = House::fresh();
-    let mut buffer = [BLANK; 20];
-    // No command: it is answered on day 0.
-    assert_eq!(house.live_list(&mut buffer), Ok(0));
-    assert_eq!(house.live_list(&mut []), Ok(0));
-    house.command(&Command::Open { day: 1 });
-    for _ticket in 0..4 {
-        house.command(&Command::sell(0, 1, 100, &[&[1]], STRAIGHT));
-    }
-    house.command(&Command::Cancel { ticket: 2 });
-    assert_eq!(house.live_list(&mut buffer[..11]), Err(30));
-    assert_eq!(house.live_list(&mut []), Err(30));
-    assert_eq!(buffer, [BLANK; 20]);
-    assert_eq!(house.live_list(&mut buffer), Ok(3));
-    assert_eq!(buffer[..12], [0, 0, 0, 1, 0, 0, 0, 3, 0, 0, 0, 4]);
-    assert_eq!(buffer[12..], [BLANK; 8]);
-    let mut exact = [0; 12];
-    assert_eq!(house.live_list(&mut exact), Ok(3));
 }

@@ -39,12 +39,7 @@ impl Example {
                 same("till of the core", rest.to_string(), joined(self.lounge.till().figures()))
             }
             "pools" => self.pools(rest),
-            "live" => {
-                let live = self.house.live_tickets().map(|ticket| i128::from(ticket.number));
-                same("live tickets", rest.to_string(), joined(live))?;
-                let live = self.lounge.live_tickets().into_iter().map(i128::from);
-                same("live tickets of the core", rest.to_string(), joined(live))
-            }
+            "live" => self.live(&bytes(rest)?),
             _ => Err(format!("{line:?} is no line of an example")),
         }
     }
@@ -74,6 +69,16 @@ impl Example {
         };
         let found = [four(pools.six), four(pools.eight)].concat();
         same("pools of the core", said.to_string(), joined(found))
+    }
+
+    /// What the live list makes of a buffer that is full of FF.
+    fn live(&self, said: &[u8]) -> Checked {
+        let mut out = [0xFF; 12];
+        self.house.live_list(&mut out).map_err(|code| format!("live list: {code}"))?;
+        same("live list", said, &out[..])?;
+        let mut out = [0xFF; 12];
+        self.lounge.live_list(&mut out).map_err(|refusal| refusal.to_string())?;
+        same("live list of the core", said, &out[..])
     }
 }
 

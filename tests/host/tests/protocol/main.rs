@@ -78,6 +78,17 @@ fn another_order_is_seen() {
     assert_eq!(tried, 1 + 11 + 5 + 3 + 4 + 3);
 }
 
+/// And the numbers of a live list.
+#[test]
+fn another_live_list_is_seen() {
+    let list = "\nlive 00000001 00000002 ";
+    for other in ["\nlive 00000002 00000001 ", "\nlive 00000001 00000001 "] {
+        let damaged = PROTOCOL.replace(list, other);
+        assert!(damaged != PROTOCOL, "{list}");
+        assert!(check(&Document::of(&damaged)).is_err(), "{other}");
+    }
+}
+
 #[test]
 fn other_names_are_seen() {
     let others = [

@@ -191,27 +191,31 @@ impl Pair {
         self.compare_live_lists()
     }
 
-    /// The same numbers, in any order, in a buffer with room to spare, one
-    /// that just serves and one that is a byte short.
+    /// Whole buffers: one that just serves, two with room to spare, and one that
+    /// is a byte short, which both leave as it was.
     fn compare_live_lists(&self) -> Result<(), Difference> {
-        let mut expected: Vec<u32> = self.house.live_tickets().map(|t| t.number).collect();
-        expected.sort_unstable();
-        let bytes = 4 * expected.len();
+        let live = self.house.live_tickets().count();
+        let bytes = 4 * live;
         for room in [bytes, bytes + 1, bytes + 9] {
-            let mut out = vec![BLANK; room];
-            same("live list", self.lounge.live_list(&mut out), Ok(expected.len() as u32))?;
-            let number = |four: &[u8]| u32::from_be_bytes(four.try_into().expect("4 bytes"));
-            let mut listed: Vec<u32> = out[..bytes].chunks_exact(4).map(number).collect();
-            listed.sort_unstable();
-            same("live tickets", &listed, &expected)?;
-            same("beyond the live list", &out[bytes..], &vec![BLANK; room - bytes])?;
+            let [proved, reference] = self.live_lists(room);
+            same("live tickets", proved.0, Ok(live as u32))?;
+            same("live list", proved, reference)?;
         }
-        if bytes > 0 {
-            let mut short = vec![BLANK; bytes - 1];
-            same("short live list", self.lounge.live_list(&mut short), Err(Refusal::ShortBuffer))?;
-            same("short buffer", &short, &vec![BLANK; bytes - 1])?;
+        if live > 0 {
+            let untouched = (Err(Refusal::ShortBuffer.number()), vec![BLANK; bytes - 1]);
+            let [proved, reference] = self.live_lists(bytes - 1);
+            same("short live list", &proved, &untouched)?;
+            same("short live list", &untouched, &reference)?;
         }
         Ok(())
+    }
+
+    /// What each of the two answers, and the buffer of so many bytes after it.
+    fn live_lists(&self, room: usize) -> [(Result<u32, u8>, Vec<u8>); 2] {
+        let mut proved = vec![BLANK; room];
+        let mut reference = proved.clone();
+        let listed = self.lounge.live_list(&mut proved).map_err(Refusal::number);
+        [(listed, proved), (self.house.live_list(&mut reference), reference)]
     }
 }
 

@@ -16,6 +16,7 @@ pub const ALL: &[NamedCheck] = &[
     ("other kinds are capped", other_kinds_are_capped),
     ("odd cents go to the first ways", odd_cents_go_to_the_first_ways),
     ("free games play but give none", free_games_play_but_give_none),
+    ("the live list rises", the_live_list_rises),
 ];
 
 const EIGHT: [u8; 8] = [1, 2, 3, 4, 5, 6, 7, 8];
@@ -184,5 +185,18 @@ pub fn free_games_play_but_give_none(flaw: Flaw) -> Check {
     expect("held after 49", desk.house.till()[5], 0)?;
     expect("free game", desk.draw(&FIRST_TWENTY).cents, primary as u64)?;
     expect("claim", desk.pays(ticket), primary as u64)?;
+    desk.difference
+}
+
+/// Of four tickets the third is cancelled.
+pub fn the_live_list_rises(flaw: Flaw) -> Check {
+    let mut desk = Desk::new(flaw);
+    for _ticket in 1..=4 {
+        desk.straight(0, 1, 100, &[1]);
+    }
+    desk.cancel(3);
+    let mut buffer = [7; 14];
+    expect("live tickets", desk.house.live_list(&mut buffer), Ok(3))?;
+    expect("buffer", buffer, [0, 0, 0, 1, 0, 0, 0, 2, 0, 0, 0, 4, 7, 7])?;
     desk.difference
 }

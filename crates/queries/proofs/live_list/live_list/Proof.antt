@@ -1,4 +1,4 @@
--- `queries::live_list::live_list` meets its contract: the numbers of the live rows are the live tickets', and they rise, so each stands once.
+-- `queries::live_list::live_list` meets its contract: the numbers of the live rows are the live tickets', and they rise.
 use Prim.Native.Nat.{_≤_}
 use native.Mathlib.Omega.{arith}
 use borrow.Author.Needs.{needs}
@@ -15,8 +15,9 @@ mul-if1 c = omega (arith, few (c .before))
 
 returns : tie.Need-returns
 returns c = λ marks.
-    let args = c .before .before .args in
-    listing-refused (args .house) (args .rows .now) marks (args .out .now) (c .if1 .taken)
+    let start = c .before .before in
+    let args = start .args in
+    listing-refused (args .house) (args .rows .now) (start .pre) marks (args .out .now) (c .if1 .taken)
 
 write-numbers-requires : tie.Need-write-numbers-requires
 write-numbers-requires c κs =
@@ -33,7 +34,7 @@ returns-2 : tie.Need-returns-2
 returns-2 c = λ marks.
     let start = c .before .before .before .before .before .before in
     let args = start .args in
-    listing-written (args .house) (args .rows .now) marks (args .out .now) (start .pre) (omega arith)
+    listing-written (args .house) (args .rows .now) (start .pre) marks (args .out .now) (omega arith)
     (c .before .before .write-numbers .last .1 .1 .0) (c .before .before .write-numbers .ensures)
 
 pub live-list-spec : {M : Type 1} → statement M

@@ -1,5 +1,5 @@
 -- `queries::live_list::write_numbers` meets its contract: each turn writes one number more behind the others.
-use Prim.Native.Nat.{_+_, _-_, _*_, _≤_}
+use Prim.Native.Nat.{_+_, _*_}
 use mathlib.Core.Path.{_≡_, refl, ap, _∙_}
 use native.Mathlib.Omega.{arith}
 use borrow.Author.Needs.{needs}
@@ -12,13 +12,16 @@ use Rattle.queries.proofs.live_list.write_numbers.Statement.{statement}
 use Rattle.queries.proofs.live_list.write_numbers.Tie as tie
 
 abbrev Inv-loop : tie.InvT-loop
-Inv-loop rows live out₀ i₀ out i = (i ≤ live) × (length out ≡ length out₀) × (out ≡ listedTo (numberAt rows) i out₀)
+Inv-loop rows live out₀ i₀ left₀ out i left = (i + left ≡ live) × (length out ≡ length out₀) × (out ≡ listedTo (numberAt rows) i out₀)
 
 abbrev μ-loop : tie.MeasureT-loop
-μ-loop rows live out₀ i₀ out i = live - i
+μ-loop rows live out₀ i₀ left₀ out i left = left
 
 loop-holds : tie.Need-loop-holds Inv-loop μ-loop
 loop-holds c = (omega arith, refl, listed-none (numberAt (c .before .args .rows .now)) (c .before .args .out .now))
+
+sub-left : tie.Need-sub-left Inv-loop μ-loop
+sub-left c = search needs
 
 -- the row's number
 row-number : (c : tie.After-read-row Inv-loop μ-loop) → c .read-row .result .number ≡ numberAt (c .before .before .before .before .args .rows .now) (c .before .before .loop .i)
@@ -82,6 +85,7 @@ write-numbers-spec =
     Inv-loop
     μ-loop
     loop-holds
+    sub-left
     read-row-requires
     mul-write-u32
     cast-write-u32
