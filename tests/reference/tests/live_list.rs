@@ -13,8 +13,8 @@ const BLANK: u8 = 0xA5;
 /// Sees that the list has these numbers in a buffer that just serves and in longer
 /// ones, and that every shorter one is refused untouched.
 #[track_caller]
-fn check_list(house: &House, numbers: &[u8]) {
-    let list: Vec<u8> = numbers.iter().flat_map(|&number| [0, 0, 0, number]).collect();
+fn check_list(house: &House, numbers: &[u32]) {
+    let list: Vec<u8> = numbers.iter().flat_map(|number| number.to_be_bytes()).collect();
     for beyond in [0, 1, 4, 9] {
         let mut buffer = vec![BLANK; list.len() + beyond];
         assert_eq!(house.live_list(&mut buffer), Ok(numbers.len() as u32));
@@ -86,6 +86,22 @@ fn cancelled_and_live() {
     desk.ball(1);
     assert_eq!(desk.cancel(2), Answer::accepted(2, 100));
     check_list(&desk.house, &[1, 2, 3]);
+    desk.difference.expect("house and sheet agree");
+}
+
+/// Half of them have lost, and as many are sold again.
+#[test]
+fn two_hundred_live_tickets() {
+    let mut desk = Desk::new(Flaw::None);
+    for _pair in 1..=100 {
+        sell(&mut desk, &[0, 1]);
+    }
+    check_list(&desk.house, &(1..=200).collect::<Vec<u32>>());
+    desk.draw(&FIRST_TWENTY);
+    let even = (1..=100).map(|half| 2 * half);
+    check_list(&desk.house, &even.clone().collect::<Vec<u32>>());
+    sell(&mut desk, &[1; 100]);
+    check_list(&desk.house, &even.chain(201..=300).collect::<Vec<u32>>());
     desk.difference.expect("house and sheet agree");
 }
 
