@@ -27,7 +27,7 @@ use Rattle.queries.proofs.ListOrder.{one-content, reached-rises}
 abbrev pub numberAt : List ℕ → ℕ → ℕ
 numberAt words i = rowAt words i .number
 
-pub numbers-rows : (h : House) (words marks : List ℕ) → liveNumbers (view h words marks) ≡ map (numberAt words) (below (h .live))
+numbers-rows : (h : House) (words marks : List ℕ) → liveNumbers (view h words marks) ≡ map (numberAt words) (below (h .live))
 unfolding view
 numbers-rows h words marks = map-map (λ t. t .number) (ticketIn words marks) (below (h .live))
 
@@ -43,8 +43,8 @@ module _ (h : House) (words : List ℕ) (comes : ComesWith h words) where
       omega (arith, bounded .1, known .issued)
 
   -- the numbers rise, whichever marks stand beside the words
-  pub numbers-rise : (marks : List ℕ) → Rises (liveNumbers (view h words marks))
-  numbers-rise marks =
+  view-rises : (marks : List ℕ) → Rises (liveNumbers (view h words marks))
+  view-rises marks =
       subst Rises (numbers-rows h words (comes .marks) ∙ sym (numbers-rows h words marks))
       (reached-rises (view h words (comes .marks)) (comes .reached))
 
@@ -114,7 +114,7 @@ module _ (h : House) (words : List ℕ) (comes : ComesWith h words) (marks befor
   -- an answer and a buffer that are the definition's
   listing : (after : List ℕ) (r : Listed) → r ≡ listAnswer m before → after ≡ listBuffer m before → Listing m before after r
   listing after r answer buffer =
-      record { answer = answer; buffer = buffer; content = one-content m (numbers-rise h words comes marks) }
+      record { answer = answer; buffer = buffer; content = one-content m (view-rises h words comes marks) }
 
   pub listing-refused : length before < h .live * 4 → Listing m before before (record { code = 30; count = 0 })
   unfolding listAnswer listBuffer
