@@ -1,5 +1,5 @@
--- The settled examples of document 01 (its rows marked ●), all of them in one theorem, computed from the definitions: charges, prizes won and
--- jackpots by real commands on a fresh house, cuts by the rule.
+-- The settled examples of document 01 (its rows marked ●) and of the requests that changed it, all of them in one theorem, computed from the
+-- definitions: charges, prizes won, jackpots and expiries by real commands on a fresh house, cuts by the rule.
 use mathlib.Core.Path.{_≡_, refl}
 use mathlib.Core.List.{List, [], _∷_, _++_, map, zipWith}
 use Prim.Native.Nat.{ℕ, _+_, _-_}
@@ -17,8 +17,9 @@ use Rattle.prizes.specs.Cut.{floorCount, cutBase, joins, roundOf, rounds, floor
 use Rattle.prizes.specs.Jackpots.{contribution, contributed, winningStakes, shareOf, oddCents, sharesFrom, jackpotWon, jackpotShares, seedOf, reseeded, repaid}
 use Rattle.prizes.specs.Settle.{prizesBy, fullBy, winnerOf, paidFor, majorsOf, prizesOf, settleJackpot, settle}
 use Rattle.sale.specs.Kinds.{jackpotBy}
+use Rattle.calendar.specs.Calendar.{isLeapYear, monthLength, nextDay, dateOf, monthDays, yearDays, dayOf, aYearOn, hasExpired}
 use Rattle.house.specs.Tickets.{runsIn, gamesLeft, paidStakes}
-use Rattle.house.specs.Commands.{changed, Command, open′, sell, ball, claim, ticketAt, stillLive, rowsOf, codeOf, opened, sold, settlement, awarded, gameSettled, ballEntered, claimed, act, reply, step}
+use Rattle.house.specs.Commands.{changed, Command, open′, sell, ball, claim, expire, ticketAt, stillLive, rowsOf, codeOf, opened, sold, settlement, awarded, gameSettled, ballEntered, claimed, isExpired, expired, act, reply, step}
 use Rattle.house.specs.Balance.{run, answerAfter, next, runFrom}
 
 -- a ticket of one way on the first numbers
@@ -26,9 +27,12 @@ abbrev first : ℕ → ℕ → ℕ → ℕ → Command
 first kind size games stake =
     sell (record { kind = kind; games = games; stake = stake; groups = 1; types = 1; marks = replicate size 1 ++ replicate (80 - size) 0 })
 
--- the first game of day 1 with some tickets, and the numbers from the given one on drawn
+-- the first game, on the given day, with some tickets, and the numbers from the given one on drawn
+abbrev gameOn : ℕ → ℕ → List Command → List Command
+gameOn day from tickets = open′ day ∷ tickets ++ map (λ n. ball (n + from)) (below 20)
+
 abbrev game : ℕ → List Command → List Command
-game from tickets = open′ 1 ∷ tickets ++ map (λ n. ball (n + from)) (below 20)
+game = gameOn 1
 
 abbrev chargeOfGames : ℕ → ℕ → ℕ
 chargeOfGames stake games = answerAfter (open′ 1 ∷ []) (first 0 1 games stake) .cents
@@ -38,6 +42,16 @@ cut majors = map (payout majors) majors
 
 abbrev paysClaim : ℕ → List Command → ℕ
 paysClaim n commands = answerAfter commands (claim n) .cents
+
+abbrev date : ℕ → ℕ → ℕ → ℕ
+date day month year = dayOf (record { year = year; month = month; day = day })
+
+-- a ticket finishes on one day with $3 due, and a later day is opened
+abbrev finished : ℕ → ℕ → List Command
+finished day today = gameOn day 1 (first 0 1 1 100 ∷ []) ++ (open′ today ∷ [])
+
+abbrev expiredOn : ℕ → ℕ → ℕ
+expiredOn day today = answerAfter (finished day today) expire .cents
 
 pub settled-examples :
     (chargeOfGames 200 5 ≡ 1000)
@@ -51,5 +65,9 @@ pub settled-examples :
     × (run (game 1 (first 1 6 1 100 ∷ [])) .house .six .debt ≡ 199990)
     × (paysClaim 1 (game 1 (first 1 6 1 100 ∷ first 1 6 1 200 ∷ [])) ≡ 33349)
     × (paysClaim 2 (game 1 (first 1 6 1 100 ∷ first 1 6 1 200 ∷ [])) ≡ 66696)
-unfolding sum below keep every any member kindOf within markOf sizeOf hitsOf byGroup nominated ways maskSum waySizes paidGames minimumStake stakeFits charge firstMet marksFit operandRows standardRows cell dollars prize floorCount cutBase joins roundOf rounds flooredOf cutPrize payout contribution contributed winningStakes shareOf oddCents sharesFrom jackpotWon jackpotShares seedOf reseeded repaid prizesBy fullBy jackpotBy winnerOf paidFor majorsOf prizesOf settleJackpot settle runsIn gamesLeft paidStakes ticketAt stillLive rowsOf codeOf opened sold settlement awarded gameSettled ballEntered claimed act reply step next runFrom changed ones onesIn zipWith
-settled-examples = (refl, refl, refl, refl, refl, refl, refl, refl, refl, refl, refl)
+    × (map (expiredOn (date 1 3 1999)) (date 1 3 2000 ∷ date 2 3 2000 ∷ []) ≡ 0 ∷ 300 ∷ [])
+    × (paysClaim 1 (finished (date 1 3 1999) (date 1 3 2000) ++ (expire ∷ [])) ≡ 300)
+    × (map (expiredOn (date 28 2 2000)) (date 28 2 2001 ∷ date 1 3 2001 ∷ []) ≡ 0 ∷ 300 ∷ [])
+    × (map (expiredOn (date 29 2 2000)) (date 28 2 2001 ∷ date 1 3 2001 ∷ []) ≡ 0 ∷ 300 ∷ [])
+unfolding sum below keep every any member kindOf within markOf sizeOf hitsOf byGroup nominated ways maskSum waySizes paidGames minimumStake stakeFits charge firstMet marksFit operandRows standardRows cell dollars prize floorCount cutBase joins roundOf rounds flooredOf cutPrize payout contribution contributed winningStakes shareOf oddCents sharesFrom jackpotWon jackpotShares seedOf reseeded repaid prizesBy fullBy jackpotBy winnerOf paidFor majorsOf prizesOf settleJackpot settle isLeapYear monthLength nextDay dateOf monthDays yearDays dayOf aYearOn hasExpired runsIn gamesLeft paidStakes ticketAt stillLive rowsOf codeOf opened sold settlement awarded gameSettled ballEntered claimed isExpired expired act reply step next runFrom changed ones onesIn zipWith
+settled-examples = (refl, refl, refl, refl, refl, refl, refl, refl, refl, refl, refl, refl, refl, refl, refl)

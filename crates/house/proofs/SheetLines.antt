@@ -10,7 +10,7 @@ use lib.ListN.{length, length-map}
 use borrow.Author.Tests.{ltb-true, ltb-false, lt-leb, le-leb, le-ltb, lt-ltb, eqb-true, eqb-false, eq-eqb, ne-eqb}
 use Rattle.sale.specs.Lists.{keep}
 use Rattle.sale.specs.Checks.{Operands}
-use Rattle.prizes.specs.Expiry.{hasExpired}
+use Rattle.calendar.specs.Calendar.{hasExpired}
 use Rattle.house.specs.Tickets.{Ticket, runsIn, gamesLeft, paidStakes, isFinished, isLive, withDue, withStop, withFinishedDay}
 use Rattle.house.specs.Model.{Model, isDrawing, nextGame}
 use Rattle.house.specs.Commands.{soldTicket, changed, cancelStop, cancelledTicket, finishedOn, awarded, isExpired}

@@ -13,7 +13,7 @@ use Rattle.prizes.specs.Hits.{drawOf}
 use Rattle.prizes.specs.Settle.{Settled, settle}
 use Rattle.prizes.specs.declared.draw.Draw.{Draw}
 use Rattle.sale.specs.Kinds.{jackpotBy}
-use Rattle.prizes.specs.Expiry.{hasExpired}
+use Rattle.calendar.specs.Calendar.{hasExpired}
 use Rattle.prizes.specs.declared.jackpot.Jackpot.{Jackpot}
 pub use Rattle.house.specs.declared.answer.Answer.{Answer}
 pub use Rattle.house.specs.Command.{Command, open′, sell, cancel, ball, claim, expire, transfer, Reply, replies}
@@ -215,7 +215,7 @@ claimed n m =
     (stillLive (m .game) (changed n (λ t. withDue t 0) (m .live)))
     (withPaid (ticketAt n (m .live) .due) (m .counters))
 
--- Expire: live finished tickets whose twelve months are over
+-- Expire: live finished tickets, once "today is later than [the] finishing date a year on", into the unclaimed fund
 unfoldable pub isExpired : Model → Ticket → Bool
 isExpired m t = isFinished (m .game) t && hasExpired (m .day) (t .finishedDay)
 

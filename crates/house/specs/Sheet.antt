@@ -1,7 +1,7 @@
 -- "The count sheet is fed each command with its operands and its answer's code, and nothing else from the house. It holds today, the game, its
 -- balls, the six pools, the two debts, the nine figures, and a line for each accepted Sell, numbered from 1. It starts as a fresh house does,
 -- with seeds and pooled 1,350,000 and the other figures 0. On a code other than 0 nothing on it changes." With the house it shares the rule book
--- (`sale` and `prizes`, with a sale's operands and the record of a jackpot's pools), the commands as they are given and the form of a reply (Command), and
+-- (`sale`, `prizes` and `calendar`, with a sale's operands and the record of a jackpot's pools), the commands as they are given and the form of a reply (Command), and
 -- the names of the nine figures (Figures), and no ticket, check or money move.
 use Prim.Native.Nat.{ℕ, zero, suc, _+_, _-_}
 use mathlib.Core.Bool.{Bool, cond, not, _&&_}
@@ -15,7 +15,7 @@ use Rattle.sale.specs.Price.{paidGames, charge}
 use Rattle.sale.specs.Checks.{Operands, wayCount, chargeOf}
 use Rattle.prizes.specs.Jackpots.{guaranteeOfSix, guaranteeOfEight, freshSeeds, freshJackpot}
 use Rattle.prizes.specs.Settle.{Entry, Settled, settle}
-use Rattle.prizes.specs.Expiry.{hasExpired}
+use Rattle.calendar.specs.Calendar.{hasExpired}
 use Rattle.prizes.specs.declared.jackpot.Jackpot.{Jackpot}
 use Rattle.house.specs.Command.{Command, open′, sell, cancel, ball, claim, expire, transfer, Reply, replies}
 use Rattle.house.specs.Figures.{Figures}
@@ -231,7 +231,8 @@ unfoldable pub sheetClaim : ℕ → Sheet → Sheet
 sheetClaim n s =
     sheetWith (onLine n (dueWith 0) (s .lines)) (moves owed paid (totalAt n (λ l. l .due) (s .lines)) (s .figures)) s
 
--- "Expire moves, from owed to unclaimed, each due above 0 of a line with no game left and finishing day + 365 less than today."
+-- "Expire moves, from owed to unclaimed, each due above 0 of a line with no game left" once "today is later than its finishing date a year on":
+-- "unclaimed and owed are summed by the new dates".
 unfoldable pub tooLate : Sheet → Line → Bool
 tooLate s l = ltb 0 (l .due) && eqb (length (l .left)) 0 && hasExpired (s .today) (l .finishingDay)
 

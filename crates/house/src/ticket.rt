@@ -5,7 +5,7 @@ ghost use mathlib.Core.Path.{_≡_};
 ghost use mathlib.Core.Bool.{cond, not};
 ghost use mathlib.Core.List.{List};
 ghost use Prim.Native.Nat.{ℕ, _+_, max};
-ghost use Rattle.prizes.specs.Bounds.{ExpiryBound};
+ghost use Rattle.calendar.specs.Bounds.{ExpiryBound};
 ghost use Rattle.house.specs.Tickets.{runsIn, isFinished, isLive, paidStakes, heldFor, kenoToGoBegun};
 ghost use Rattle.house.specs.Model.{Model};
 ghost use Rattle.house.specs.Commands.{finishedOn, isExpired};

@@ -1,12 +1,9 @@
 -- The bounds that some parts of prizes and jackpots ask of their callers, so that no sum or product passes 64 bits. Every sale (`Playable`) and
--- the laws on reached houses give them. And the bound of a day that expiries are told by, which Expire's parts hand on.
+-- the laws on reached houses give them.
 use Prim.Native.Nat.{ℕ, _*_, _≤_, _<_, _^_}
-use mathlib.Core.Path.{_≡_}
-use lib.Dec.{ltb}
 use Rattle.sale.specs.Price.{chargeLimit}
 use Rattle.prizes.specs.Prize.{majorFloor}
 use Rattle.prizes.specs.Cut.{majorsLimit}
-use Rattle.prizes.specs.Expiry.{hasExpired}
 use Rattle.prizes.specs.declared.cut.Cut.{Cut}
 use Rattle.prizes.specs.declared.jackpot.Jackpot.{Jackpot}
 
@@ -58,7 +55,3 @@ pub record Seeding (j : Jackpot) (guarantee : ℕ) : Type 0 where
 -- the most that a ticket's prizes of one game are together, jackpot shares aside: so much for each of 255 ways
 abbrev pub ticketPrizesLimit : ℕ
 ticketPrizesLimit = 255 * majorsLimit
-
--- a day with which every finishing day is compared today: exactly the tickets that finished before it have expired
-pub record ExpiryBound (today bound : ℕ) : Type 0 where
-  pub before : (finishingDay : ℕ) → hasExpired today finishingDay ≡ ltb finishingDay bound

@@ -4,7 +4,6 @@ pub mod Prize
 pub mod Cut
 pub mod Jackpots
 pub mod Settle
-pub mod Expiry
 pub mod Found
 pub mod Rounds
 pub mod Bounds

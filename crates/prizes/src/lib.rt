@@ -1,7 +1,6 @@
-// The rule book of prizes: schedules, prizes, the cut of major prizes, the jackpots, and expiry.
+// The rule book of prizes: schedules, prizes, the cut of major prizes, and the jackpots.
 pub mod cut;
 pub mod draw;
-pub mod expiry;
 mod figures;
 pub mod found;
 pub mod groups;

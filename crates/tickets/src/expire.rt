@@ -1,4 +1,5 @@
 // Expire: finished tickets that nobody claimed in time are dropped, and their dues are unclaimed money.
+use calendar::expiry::expiry_bound;
 use house::answer::Outcome;
 use house::answer::accepted;
 use house::answer::refused;
@@ -6,7 +7,6 @@ use house::rows::move_ticket;
 use house::rows::read_row;
 use house::state::House;
 use house::ticket::is_expired;
-use prizes::expiry::expiry_bound;
 ghost use mathlib.Core.List.{map};
 ghost use Prim.Native.Nat.{ℕ, _^_, _≤_, _<_};
 ghost use Rattle.sale.specs.Lists.{sum};

@@ -19,7 +19,7 @@ const TRANSFER: u8 = 7;
 pub enum Command {
     /// Begins a day, later than the one before.
     Open {
-        /// From 1 on.
+        /// From 1 on, which is 1 January 1998.
         day: u16,
     },
     /// Sells a ticket.
@@ -39,7 +39,7 @@ pub enum Command {
         /// The ticket's number.
         ticket: u32,
     },
-    /// Takes over what nobody has claimed in 365 days.
+    /// Takes over what nobody has claimed by the same date a year on.
     Expire,
     /// Moves unclaimed money into a jackpot's primary pool.
     Transfer {

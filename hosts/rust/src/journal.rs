@@ -21,7 +21,7 @@ pub const JOURNAL_FORMAT: u32 = 1;
 
 /// The version of the rules. Whatever changes the answer to some bytes raises it,
 /// and a journal of other rules is refused.
-pub const RULES: u32 = 1;
+pub const RULES: u32 = 2;
 
 /// Bytes of the longest roll that a [`JournaledLounge`] takes at once.
 pub const LONGEST_ROLL: usize = 0xFF_FFFF;

@@ -6,7 +6,7 @@ use native.Mathlib.Omega.{arith}
 use lib.ListN.{length, getD, take}
 use borrow.Author.Needs.{needs}
 use Rattle.sale.specs.Lists.{sum}
-use Rattle.prizes.specs.Bounds.{ExpiryBound}
+use Rattle.calendar.specs.Bounds.{ExpiryBound}
 use Rattle.house.specs.Tickets.{Ticket}
 use Rattle.house.specs.Model.{Model}
 use Rattle.house.specs.Commands.{blankTicket, isExpired}

@@ -1,0 +1,2 @@
+// The rule book's calendar: when a finished ticket expires.
+pub mod expiry;
