@@ -311,12 +311,14 @@ static void closed_in_the_middle(lounge *lounge)
 {
     static const uint8_t cancel_4[] = {3, 0, 0, 0, 4};
     static const uint8_t claim_5[] = {5, 0, 0, 0, 5};
-    static const uint8_t open_day_2[] = {1, 0, 2};
-    static const uint8_t open_day_366[] = {1, 1, 110};
-    static const uint8_t open_day_367[] = {1, 1, 111};
+    /* 1 and 2 March 1999, and the same dates of 2000. */
+    static const uint8_t open_day_425[] = {1, 1, 169};
+    static const uint8_t open_day_426[] = {1, 1, 170};
+    static const uint8_t open_day_791[] = {1, 3, 23};
+    static const uint8_t open_day_792[] = {1, 3, 24};
     static const uint8_t expire[] = {6};
     open_lounge(lounge);
-    CHECK(gives(lounge, open_day_1, 3, (answer){1, 0, 1, 0}));
+    CHECK(gives(lounge, open_day_425, 3, (answer){1, 0, 425, 0}));
     sell_eight(lounge);
     CHECK_LISTS(lounge, 1, 2, 3, 4, 5, 6, 7, 8);
     CHECK(gives(lounge, cancel_4, 5, (answer){3, 0, 4, 100}));
@@ -325,14 +327,14 @@ static void closed_in_the_middle(lounge *lounge)
     CHECK_LISTS(lounge, 1, 2, 5, 7, 8);
     CHECK(gives(lounge, claim_5, 5, (answer){5, 0, 5, 300}));
     CHECK_LISTS(lounge, 1, 2, 7, 8);
-    CHECK(gives(lounge, open_day_2, 3, (answer){1, 0, 2, 0}));
+    CHECK(gives(lounge, open_day_426, 3, (answer){1, 0, 426, 0}));
     CHECK(draws(lounge, 2 * 300));
-    CHECK(gives(lounge, open_day_366, 3, (answer){1, 0, 366, 0}));
+    CHECK(gives(lounge, open_day_791, 3, (answer){1, 0, 791, 0}));
     CHECK(gives(lounge, expire, 1, (answer){6, 0, 0, 0}));
     CHECK_LISTS(lounge, 1, 2, 7, 8);
     CHECK(sells(lounge, 1, 1, 9));
-    /* 2 and 8 were finished on day 1, 1 and 7 on day 2. */
-    CHECK(gives(lounge, open_day_367, 3, (answer){1, 0, 367, 0}));
+    /* 2 and 8 were finished on day 425, 1 and 7 on day 426. */
+    CHECK(gives(lounge, open_day_792, 3, (answer){1, 0, 792, 0}));
     CHECK(gives(lounge, expire, 1, (answer){6, 0, 2, 600}));
     CHECK_LISTS(lounge, 1, 7, 9);
     CHECK(sells(lounge, 1, 1, 10));

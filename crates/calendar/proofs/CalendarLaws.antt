@@ -7,11 +7,12 @@ use mathlib.Core.Path.{_≡_, refl, sym, ap, _∙_}
 use mathlib.Core.Bool.{Bool, true, false}
 use mathlib.Core.Logic.{_⊎_, inl, inr, ⊎-elim}
 use lib.Dec.{ltb, eqb}
-use borrow.Author.Tests.{eqb-true, eqb-false, ltb-true, ltb-false, lt-ltb, le-ltb}
-use Rattle.calendar.specs.Calendar.{Date, dateOf, dayOf, IsDate, dayAYearOn, hasExpired}
+use borrow.Author.Tests.{eqb-true, eqb-false, ltb-true, ltb-false, lt-ltb, le-ltb, ne-eqb}
+use Rattle.calendar.specs.Calendar.{Date, dateOf, dayOf, IsDate, aYearOn, isLater, hasExpired, dayAYearOn}
 use Rattle.calendar.specs.Bounds.{yearBefore}
 use Rattle.calendar.proofs.DateLaws.{dates-numbered, only-date, number-positive}
-use Rattle.calendar.proofs.YearOn.{two-lengths, on-day}
+use Rattle.calendar.proofs.DateOrder.{later-by-number}
+use Rattle.calendar.proofs.YearOn.{two-lengths, on-day, on-date}
 
 numbered-date : (n : ℕ) → 0 < n → IsDate (dateOf n) × (dayOf (dateOf n) ≡ n)
 numbered-date zero h = absurd (not-suc-le-zero h)
@@ -62,11 +63,23 @@ compared-alike from day day′ today p q other = go (ltb day′ today) refl (wit
     go true e u v = lt-ltb day today (omega (arith, ltb-true, other))
     go false e u v = le-ltb day today (omega (arith, ltb-false, other))
 
+-- no date is before day 0
+none-earlier : (z : Date) → IsDate z → isLater (dateOf 0) z ≡ false
+unfolding isLater dateOf
+none-earlier z d = rw (le-ltb (z .year) 1997 (omega (arith, d .year)), ne-eqb (z .year) 1997 (λ e. omega (arith, d .year)))
+
+-- today's date is later than a finishing date a year on exactly if its number is larger
+expired-by-number : (today finished : ℕ) → hasExpired today finished ≡ ltb (dayAYearOn finished) today
+unfolding hasExpired
+expired-by-number zero finished = none-earlier (aYearOn (dateOf finished)) (on-date finished) ∙ sym (le-ltb (dayAYearOn finished) 0 (omega arith))
+expired-by-number (suc n) finished =
+    later-by-number (dateOf (suc n)) (aYearOn (dateOf finished)) (dates-numbered n .date) (on-date finished)
+    ∙ ap (λ number. ltb (dayAYearOn finished) number) (dates-numbered n .number)
+
 -- so one number of days, worked out today, tells of every finishing day whether it has expired: which of the two it is matters only for the day
 -- that is 366 days back, and a year on from there is as long as a year back from here
 pub expired-by-days : (today finished : ℕ) → hasExpired today finished ≡ ltb (finished + yearBefore today) today
-unfolding hasExpired
-expired-by-days today finished = go (eqb today (finished + 366)) refl
+expired-by-days today finished = expired-by-number today finished ∙ go (eqb today (finished + 366)) refl
   where
     go : (same : Bool) → eqb today (finished + 366) ≡ same → ltb (dayAYearOn finished) today ≡ ltb (finished + yearBefore today) today
     go true e =

@@ -3,7 +3,7 @@ use Prim.Native.Nat.{ℕ}
 use mathlib.Core.Path.{_≡_, refl}
 use mathlib.Core.Bool.{true, false}
 use mathlib.Core.List.{[], _∷_, map}
-use Rattle.calendar.specs.Calendar.{Date, isLeapYear, monthLength, nextDay, dateOf, monthDays, yearDays, dayOf, aYearOn, dayAYearOn, hasExpired}
+use Rattle.calendar.specs.Calendar.{Date, isLeapYear, monthLength, nextDay, dateOf, monthDays, yearDays, dayOf, aYearOn, isLater, hasExpired, dayAYearOn}
 
 abbrev pub date : ℕ → ℕ → ℕ → Date
 date day month year = record { year = year; month = month; day = day }
@@ -19,5 +19,5 @@ pub known-days :
     × (map dayOf (date 1 3 2000 ∷ date 28 2 2100 ∷ date 1 3 2100 ∷ date 5 6 2177 ∷ []) ≡ 791 ∷ 37314 ∷ 37315 ∷ 65535 ∷ [])
     × (map dayAYearOn (425 ∷ 789 ∷ 790 ∷ 791 ∷ []) ≡ 791 ∷ 1155 ∷ 1155 ∷ 1156 ∷ [])
     × (map (λ today. hasExpired today 425) (791 ∷ 792 ∷ []) ≡ false ∷ true ∷ [])
-unfolding isLeapYear monthLength nextDay dateOf monthDays yearDays dayOf aYearOn hasExpired
+unfolding isLeapYear monthLength nextDay dateOf monthDays yearDays dayOf aYearOn isLater hasExpired
 known-days = (refl, refl, refl, refl, refl)

@@ -9,7 +9,9 @@ use lib.Dec.{leb, eqb}
 use borrow.Author.Tests.{eqb-true, eqb-false, leb-true, leb-false, eq-eqb, ne-eqb}
 use Rattle.calendar.specs.Calendar.{Date, isLeapYear, monthLength, monthDays, yearDays, dateOf, dayOf, IsDate, isLeapDay, aYearOn, dayAYearOn}
 use Rattle.calendar.specs.Bounds.{isLong, yearBefore}
+use Rattle.calendar.proofs.KnownDays.{date}
 use Rattle.calendar.proofs.DateLaws.{month-more, year-more, no-months, Numbered, dates-numbered}
+use Rattle.calendar.proofs.DateOrder.{months-rise}
 use Rattle.calendar.proofs.LeapDays.{leap, leap-le, year-length, common-year, march-year, next-common}
 
 -- ---- months of two years
@@ -44,19 +46,6 @@ from-march : (y y′ i : ℕ) → monthDays y′ (suc (suc i)) + leap y ≡ mont
 unfolding monthDays
 from-march y y′ zero = omega (arith, january y, january y′, february y, february y′)
 from-march y y′ (suc i) = omega (arith, from-march y y′ i, same-month y y′ (suc (suc (suc i))) (λ e. omega arith))
-
-months-rise : (y a b : ℕ) → a ≤ b → monthDays y a ≤ monthDays y b
-unfolding monthDays
-months-rise y a zero h =
-    let none : a ≡ 0 = omega arith in
-    subst⁻¹ (λ n. monthDays y n ≤ 0) none (omega arith)
-months-rise y a (suc b) h = go (leb a b) refl (months-rise y a b)
-  where
-    go : (before : Bool) → leb a b ≡ before → (a ≤ b → monthDays y a ≤ monthDays y b) → monthDays y a ≤ monthDays y b + monthLength y (suc b)
-    go true e rise = omega (arith, rise (leb-true a b e))
-    go false e rise =
-        let same : a ≡ suc b = omega (arith, leb-false) in
-        omega (arith, ap (monthDays y) same)
 
 -- ---- a year on, in days
 
@@ -148,6 +137,27 @@ module _ (x : Date) (d : IsDate x) where
       go false true true p q r = on-leap-day (omega (arith, leb-true, leb-false)) (eqb-true (x .day) 29 r)
       go false true false p q r = on-february (omega (arith, leb-true, leb-false)) r
 
+  -- and it is a date
+  on-is-date : IsDate (aYearOn x)
+  unfolding aYearOn
+  on-is-date = go (eqb (x .month) 2) (eqb (x .day) 29) refl refl
+    where
+      from : 1998 ≤ y + 1
+      from = omega (arith, d .year)
+
+      go : (february last : Bool) → eqb (x .month) 2 ≡ february → eqb (x .day) 29 ≡ last → IsDate (date (cond (february && last) 28 (x .day)) (x .month) (y + 1))
+      go true true p q =
+          let length : monthLength (y + 1) (x .month) ≡ 28 + leap (y + 1) = ap (monthLength (y + 1)) (eqb-true (x .month) 2 p) ∙ february (y + 1) in
+          record { year = from; month = d .month; inYear = d .inYear; day = omega arith; inMonth = omega arith }
+      go true false p q =
+          let month : x .month ≡ 2 = eqb-true (x .month) 2 p in
+          let length : monthLength (y + 1) (x .month) ≡ 28 + leap (y + 1) = ap (monthLength (y + 1)) month ∙ february (y + 1) in
+          let before : monthLength y (x .month) ≡ 28 + leap y = ap (monthLength y) month ∙ february y in
+          record { year = from; month = d .month; inYear = d .inYear; day = d .day; inMonth = omega (arith, d .inMonth, leap-le y, eqb-false (x .day) 29 q) }
+      go false last p q =
+          let same : monthLength y (x .month) ≡ monthLength (y + 1) (x .month) = same-month y (y + 1) (x .month) (eqb-false (x .month) 2 p) in
+          record { year = from; month = d .month; inYear = d .inYear; day = d .day; inMonth = omega (arith, d .inMonth) }
+
 pub two-lengths : (n : ℕ) → (yearBefore n ≡ 365) ⊎ (yearBefore n ≡ 366)
 unfolding yearBefore
 two-lengths n = go (isLong n)
@@ -166,3 +176,11 @@ on-day zero = on-day-zero ∙ omega arith
 on-day (suc n) =
     let this : Numbered (dateOf (suc n)) (suc n) = dates-numbered n in
     on-days (dateOf (suc n)) (this .date) ∙ ap (λ k. k + yearBefore (k + 366)) (this .number)
+
+on-date-zero : IsDate (aYearOn (dateOf 0))
+unfolding aYearOn dateOf monthLength isLeapYear
+on-date-zero = record { year = omega arith; month = omega arith; inYear = omega arith; day = omega arith; inMonth = omega arith }
+
+pub on-date : (n : ℕ) → IsDate (aYearOn (dateOf n))
+on-date zero = on-date-zero
+on-date (suc n) = on-is-date (dateOf (suc n)) (dates-numbered n .date)

@@ -37,7 +37,26 @@ unfoldable pub dateOf : ℕ → Date
 dateOf zero = record { year = 1997; month = 12; day = 31 }
 dateOf (suc n) = nextDay (dateOf n)
 
--- ---- and back
+-- ---- a year on
+
+abbrev pub isLeapDay : Date → Bool
+isLeapDay x = eqb (x .month) 2 && eqb (x .day) 29
+
+-- the same date of the next year: "29 February counts as 28 February"
+unfoldable pub aYearOn : Date → Date
+aYearOn x = record { year = x .year + 1; month = x .month; day = cond (isLeapDay x) 28 (x .day) }
+
+-- "later": by the year, in the same year by the month, and in the same month by the day
+unfoldable pub isLater : Date → Date → Bool
+isLater x z =
+    ltb (z .year) (x .year)
+    || (eqb (z .year) (x .year) && (ltb (z .month) (x .month) || (eqb (z .month) (x .month) && ltb (z .day) (x .day))))
+
+-- "A ticket expires once today is later than its finishing date a year on": whether it has expired by today, where it finished on the given day
+unfoldable pub hasExpired : ℕ → ℕ → Bool
+hasExpired today finishingDay = isLater (dateOf today) (aYearOn (dateOf finishingDay))
+
+-- ---- back from a date to its day's number, in which the laws speak
 
 -- the days of so many months of a year, from January on
 unfoldable pub monthDays : ℕ → ℕ → ℕ
@@ -60,19 +79,6 @@ pub record IsDate (x : Date) : Type 0 where
   pub day : 1 ≤ x .day
   pub inMonth : x .day ≤ monthLength (x .year) (x .month)
 
--- ---- a year on
-
-abbrev pub isLeapDay : Date → Bool
-isLeapDay x = eqb (x .month) 2 && eqb (x .day) 29
-
--- the same date of the next year: "29 February counts as 28 February"
-unfoldable pub aYearOn : Date → Date
-aYearOn x = record { year = x .year + 1; month = x .month; day = cond (isLeapDay x) 28 (x .day) }
-
--- the day that has a day's date a year on
+-- the number of the day that has a day's date a year on
 abbrev pub dayAYearOn : ℕ → ℕ
 dayAYearOn n = dayOf (aYearOn (dateOf n))
-
--- "once today is later than its finishing date a year on": whether a ticket that finished on the given day has expired by today
-unfoldable pub hasExpired : ℕ → ℕ → Bool
-hasExpired today finishingDay = ltb (dayAYearOn finishingDay) today

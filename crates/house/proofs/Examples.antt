@@ -17,7 +17,7 @@ use Rattle.prizes.specs.Cut.{floorCount, cutBase, joins, roundOf, rounds, floor
 use Rattle.prizes.specs.Jackpots.{contribution, contributed, winningStakes, shareOf, oddCents, sharesFrom, jackpotWon, jackpotShares, seedOf, reseeded, repaid}
 use Rattle.prizes.specs.Settle.{prizesBy, fullBy, winnerOf, paidFor, majorsOf, prizesOf, settleJackpot, settle}
 use Rattle.sale.specs.Kinds.{jackpotBy}
-use Rattle.calendar.specs.Calendar.{isLeapYear, monthLength, nextDay, dateOf, monthDays, yearDays, dayOf, aYearOn, hasExpired}
+use Rattle.calendar.specs.Calendar.{isLeapYear, monthLength, nextDay, dateOf, monthDays, yearDays, dayOf, aYearOn, isLater, hasExpired}
 use Rattle.house.specs.Tickets.{runsIn, gamesLeft, paidStakes}
 use Rattle.house.specs.Commands.{changed, Command, open′, sell, ball, claim, expire, ticketAt, stillLive, rowsOf, codeOf, opened, sold, settlement, awarded, gameSettled, ballEntered, claimed, isExpired, expired, act, reply, step}
 use Rattle.house.specs.Balance.{run, answerAfter, next, runFrom}
@@ -69,5 +69,5 @@ pub settled-examples :
     × (paysClaim 1 (finished (date 1 3 1999) (date 1 3 2000) ++ (expire ∷ [])) ≡ 300)
     × (map (expiredOn (date 28 2 2000)) (date 28 2 2001 ∷ date 1 3 2001 ∷ []) ≡ 0 ∷ 300 ∷ [])
     × (map (expiredOn (date 29 2 2000)) (date 28 2 2001 ∷ date 1 3 2001 ∷ []) ≡ 0 ∷ 300 ∷ [])
-unfolding sum below keep every any member kindOf within markOf sizeOf hitsOf byGroup nominated ways maskSum waySizes paidGames minimumStake stakeFits charge firstMet marksFit operandRows standardRows cell dollars prize floorCount cutBase joins roundOf rounds flooredOf cutPrize payout contribution contributed winningStakes shareOf oddCents sharesFrom jackpotWon jackpotShares seedOf reseeded repaid prizesBy fullBy jackpotBy winnerOf paidFor majorsOf prizesOf settleJackpot settle isLeapYear monthLength nextDay dateOf monthDays yearDays dayOf aYearOn hasExpired runsIn gamesLeft paidStakes ticketAt stillLive rowsOf codeOf opened sold settlement awarded gameSettled ballEntered claimed isExpired expired act reply step next runFrom changed ones onesIn zipWith
+unfolding sum below keep every any member kindOf within markOf sizeOf hitsOf byGroup nominated ways maskSum waySizes paidGames minimumStake stakeFits charge firstMet marksFit operandRows standardRows cell dollars prize floorCount cutBase joins roundOf rounds flooredOf cutPrize payout contribution contributed winningStakes shareOf oddCents sharesFrom jackpotWon jackpotShares seedOf reseeded repaid prizesBy fullBy jackpotBy winnerOf paidFor majorsOf prizesOf settleJackpot settle isLeapYear monthLength nextDay dateOf monthDays yearDays dayOf aYearOn isLater hasExpired runsIn gamesLeft paidStakes ticketAt stillLive rowsOf codeOf opened sold settlement awarded gameSettled ballEntered claimed isExpired expired act reply step next runFrom changed ones onesIn zipWith
 settled-examples = (refl, refl, refl, refl, refl, refl, refl, refl, refl, refl, refl, refl, refl, refl, refl)

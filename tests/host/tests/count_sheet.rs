@@ -8,7 +8,7 @@ use reference::command::length;
 use reference::roll::{read_answer, ANSWER_BYTES};
 use reference::till::balances;
 use reference::{Cents, Command, CountSheet};
-use rolls::mixed;
+use rolls::{mixed, scenarios};
 use side_by_side::{jackpot, reference_jackpot};
 use std::collections::HashSet;
 use wulipday::{Lounge, Stop};
@@ -52,7 +52,9 @@ impl Count {
 #[test]
 fn the_sheet_after_every_command() {
     let mut commands = 0;
-    for roll in mixed::mixed_set(1998, 700, 1_000) {
+    let mut rolls = mixed::mixed_set(1998, 700, 1_000);
+    rolls.extend(scenarios::februaries(1998));
+    for roll in rolls {
         let mut count = Count::fresh();
         let mut unread = &roll[..];
         while let Some(bytes) = unread.first().and_then(|&byte| unread.get(..length(byte)?)) {

@@ -1,5 +1,5 @@
 //! Document 01's printed roll and settled examples on the proved core alone,
-//! with the document's own figures.
+//! with the document's own figures, and the dates of a year by the calendar.
 
 use reference::roll::{read_answer, ANSWER_BYTES};
 use reference::{Answer, Command};
@@ -43,6 +43,18 @@ impl Desk {
 
     fn claim(&mut self, ticket: u32) -> Answer {
         self.give(Command::Claim { ticket })
+    }
+
+    /// A ticket that finishes on this day with three times its stake due.
+    fn finish_on(&mut self, day: u16, stake: u32) {
+        self.give(Command::Open { day });
+        self.straight(0, stake, &[1]);
+        assert_eq!(self.draw(), 3 * u64::from(stake));
+    }
+
+    fn expire_on(&mut self, day: u16) -> Answer {
+        assert_eq!(self.give(Command::Open { day }).code, 0);
+        self.give(Command::Expire)
     }
 }
 
@@ -156,15 +168,32 @@ fn two_hundred_and_one_tickets() {
     assert_eq!(desk.lounge.live_list(&mut [0; 800]), Ok(200));
 }
 
+/// "Finished on 1 March 1999, it still stands on 1 March 2000, 366 days after."
 #[test]
-fn days_365_and_366() {
+fn a_year_by_the_calendar() {
     let mut desk = Desk::on_day_one();
-    desk.straight(0, 100, &[1]);
-    let due = desk.draw();
-    assert!(due > 0);
-    desk.give(Command::Open { day: 1 + 365 });
-    assert_eq!(desk.give(Command::Expire), Answer::accepted(0, 0));
-    desk.give(Command::Open { day: 1 + 366 });
-    assert_eq!(desk.give(Command::Expire), Answer::accepted(1, due));
-    assert_eq!(desk.lounge.till().unclaimed, due);
+    desk.finish_on(425, 100);
+    assert_eq!(desk.expire_on(791), Answer::accepted(0, 0));
+    let till = desk.lounge.till();
+    assert_eq!((till.owed, till.unclaimed), (300, 0));
+    assert_eq!(desk.expire_on(792), Answer::accepted(1, 300));
+    let till = desk.lounge.till();
+    assert_eq!((till.owed, till.unclaimed), (0, 300));
+}
+
+/// 28 and 29 February 2000 both stand through 28 February 2001; 1 March 2000 has
+/// its own date.
+#[test]
+fn a_leap_day_counts_as_the_day_before() {
+    let mut desk = Desk::on_day_one();
+    desk.finish_on(789, 100);
+    desk.finish_on(790, 200);
+    desk.finish_on(791, 400);
+    assert_eq!(desk.expire_on(1_155), Answer::accepted(0, 0));
+    assert_eq!(desk.expire_on(1_156), Answer::accepted(2, 900));
+    assert_eq!(desk.claim(1), Answer::refused(19));
+    assert_eq!(desk.claim(2), Answer::refused(19));
+    assert_eq!(desk.expire_on(1_157), Answer::accepted(1, 1_200));
+    let till = desk.lounge.till();
+    assert_eq!((till.owed, till.unclaimed), (0, 2_100));
 }

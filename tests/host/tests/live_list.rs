@@ -113,6 +113,8 @@ fn no_live_tickets() {
 #[test]
 fn closed_in_the_middle() {
     let mut desk = Desk::on_day_one();
+    // 1 March 1999.
+    desk.open(425);
     assert_eq!([desk.sell_winner(2), desk.sell_winner(1), desk.sell_loser()], [1, 2, 3]);
     assert_eq!([desk.sell_winner(1), desk.sell_winner(1), desk.sell_loser()], [4, 5, 6]);
     assert_eq!([desk.sell_winner(2), desk.sell_winner(1)], [7, 8]);
@@ -124,16 +126,17 @@ fn closed_in_the_middle() {
     desk.claim(5);
     desk.lists(&[1, 2, 7, 8]);
 
-    desk.open(2);
+    desk.open(426);
     assert_eq!([desk.sell_loser(), desk.sell_winner(1)], [9, 10]);
     desk.lists(&[1, 2, 7, 8, 9, 10]);
     desk.draw();
     desk.lists(&[1, 2, 7, 8, 10]);
-    desk.open(366);
+    // 1 March 2000.
+    desk.open(791);
     assert_eq!(desk.expire(), Answer::Expired { tickets: 0, cents: 0 });
     desk.lists(&[1, 2, 7, 8, 10]);
-    // 2 and 8 were finished on day 1, the others on day 2.
-    desk.open(367);
+    // 2 and 8 were finished on 1 March 1999, the others on the 2nd.
+    desk.open(792);
     assert_eq!(desk.expire(), Answer::Expired { tickets: 2, cents: 600 });
     desk.lists(&[1, 7, 10]);
     assert_eq!([desk.sell_winner(1), desk.sell_loser(), desk.sell_winner(1)], [11, 12, 13]);

@@ -22,16 +22,22 @@ pub enum Flaw {
     OddCentsToLast,
     /// The live list begins with the highest number.
     FallingLiveList,
+    /// A ticket's year is 365 days, whatever the calendar says.
+    YearOf365Days,
+    /// Every fourth year is a leap year, 2100 too.
+    EveryFourthYearLeaps,
 }
 
 impl Flaw {
     /// The flaws proper, without [`Flaw::None`].
-    pub const ALL: [Flaw; 6] = [
+    pub const ALL: [Flaw; 8] = [
         Flaw::SettlesOneGameMore,
         Flaw::OneCutRound,
         Flaw::CappedJackpot,
         Flaw::PoolsAtSale,
         Flaw::OddCentsToLast,
         Flaw::FallingLiveList,
+        Flaw::YearOf365Days,
+        Flaw::EveryFourthYearLeaps,
     ];
 }

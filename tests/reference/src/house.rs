@@ -3,6 +3,7 @@
 //! Every command first goes through its row of the table from the left, and
 //! touches the house only when nothing there was met.
 
+use crate::calendar::Calendar;
 use crate::command::{Answer, Command};
 use crate::flaw::Flaw;
 use crate::jackpots::Jackpots;
@@ -45,8 +46,6 @@ impl House {
     pub const LAST_TICKET: u32 = 9_999_999;
     pub const LAST_GAME: u32 = 9_999_999;
     pub const BALLS_IN_A_GAME: usize = 20;
-    /// A prize expires when more than this many days have gone by.
-    pub const CLAIM_DAYS: u32 = 365;
     /// What each ticket behind a seasoned house was sold at.
     pub const SEASONED_CHARGE: Cents = 100;
 
@@ -222,11 +221,9 @@ impl House {
     fn expire(&mut self) -> Outcome {
         self.check_day()?;
 
-        let today = u32::from(self.today);
-        let is_over = |ticket: &&mut Ticket| {
-            let finished_on = ticket.finished_on.map(u32::from);
-            ticket.is_live() && finished_on.is_some_and(|day| day + Self::CLAIM_DAYS < today)
-        };
+        let has_expired = Calendar::flawed(self.flaw).expired_by(self.today);
+        let is_over =
+            |ticket: &&mut Ticket| ticket.is_live() && ticket.finished_on.is_some_and(&has_expired);
         let mut expired = 0;
         let mut dues = 0;
         for ticket in self.tickets.iter_mut().filter(is_over) {

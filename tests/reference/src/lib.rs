@@ -1,4 +1,5 @@
-//! A plain second implementation of document 01, written from its text alone.
+//! A plain second implementation of document 01 and of what the customers have
+//! asked for since, written from their texts alone.
 //!
 //! It is meant to be read beside the document, section by section, and to be
 //! run beside the settlement core: same commands in, same answers out. So it
@@ -14,10 +15,12 @@
 //! | The house: commands                 | [`command`], [`ticket`], [`house`] |
 //! | The house: till                     | [`till`]                         |
 //! | The house: the count sheet          | [`sheet`]                        |
+//! | A year by the calendar, asked since | [`calendar`]                     |
 //! | The roll                            | [`roll`], [`ledger`]             |
 //! | Where each thing is checked         | [`house`], [`refusal`], [`roll`] |
 //! | Traps                               | [`flaw`]                         |
 
+pub mod calendar;
 pub mod command;
 pub mod flaw;
 pub mod house;
@@ -38,6 +41,7 @@ pub mod ways;
 /// product in it, has to be watched for its size.
 pub type Cents = i128;
 
+pub use calendar::{Calendar, Date};
 pub use command::{Answer, Command};
 pub use flaw::Flaw;
 pub use house::House;

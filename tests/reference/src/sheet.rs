@@ -4,6 +4,7 @@
 //! It checks no rule. It believes the code, moves the money as its list says,
 //! and answers each accepted command from what it holds itself.
 
+use crate::calendar::Calendar;
 use crate::command::Command;
 use crate::flaw::Flaw;
 use crate::house::House;
@@ -200,12 +201,11 @@ impl CountSheet {
     }
 
     fn expire(&mut self) -> (u32, Cents) {
-        let today = u32::from(self.today);
+        let has_expired = Calendar::GREGORIAN.expired_by(self.today);
         let mut moved = 0;
         let mut dues = 0;
         for line in &mut self.lines {
-            let over = |day: u16| u32::from(day) + House::CLAIM_DAYS < today;
-            if line.due > 0 && line.finishing_day.is_some_and(over) {
+            if line.due > 0 && line.finishing_day.is_some_and(&has_expired) {
                 dues += std::mem::take(&mut line.due);
                 moved += 1;
             }

@@ -18,6 +18,8 @@ fn must_find(flaw: Flaw) -> &'static [&'static str] {
         }
         Flaw::OddCentsToLast => &["sixes at 100 and 200 hit", "odd cents go to the first ways"],
         Flaw::FallingLiveList => &["the live list rises"],
+        Flaw::YearOf365Days => &["finished on 1 March 1999", "finished about 29 February 2000"],
+        Flaw::EveryFourthYearLeaps => &["finished about February 2100", "finished about 2104"],
     }
 }
 

@@ -1,5 +1,5 @@
-//! "Run too: 15 and 16 numbers in a way, 200 and 201 tickets, days 365 and
-//! 366", and the far ends of the numbers.
+//! "Run too: 15 and 16 numbers in a way, 200 and 201 tickets", and the far ends
+//! of the numbers.
 
 mod checks;
 
@@ -48,52 +48,39 @@ fn two_hundred_and_two_hundred_and_one_tickets() {
     desk.difference.expect("house and sheet agree");
 }
 
-/// Finished on day 10: day 375 is too early, day 376 expires it.
-#[test]
-fn days_365_and_366() {
-    let mut desk = desk();
-    desk.open(10);
-    let ticket = desk.straight(0, 1, 100, &[1]);
-    desk.draw(&FIRST_TWENTY);
-    desk.open(375);
-    assert_eq!(desk.expire(), Answer::accepted(0, 0));
-    desk.open(376);
-    // Until someone says so it can be claimed.
-    let mut other = desk.house.clone();
-    assert_eq!(other.command(&Command::Claim { ticket }), Answer::accepted(ticket, 300));
-    assert_eq!(desk.expire(), Answer::accepted(1, 300));
-    assert_eq!(desk.claim(ticket).code, 19);
-    assert_eq!(desk.expire(), Answer::accepted(0, 0));
-    desk.difference.expect("house and sheet agree");
-}
-
 /// The finishing day is the day the last game goes, not the day of the sale nor
 /// of the win; and an unfinished ticket does not expire.
 #[test]
-fn days_run_from_the_finishing_day() {
+fn the_year_runs_from_the_finishing_day() {
     let mut desk = desk();
     let ticket = desk.straight(0, 2, 100, &[1]);
     desk.draw(&FIRST_TWENTY);
-    desk.open(1_000);
+    // 1 March 2000, and 1 and 2 March 2001.
+    desk.open(791);
     assert_eq!(desk.expire(), Answer::accepted(0, 0));
     desk.draw(&LAST_TWENTY);
-    desk.open(1_365);
+    desk.open(1_156);
     assert_eq!(desk.expire(), Answer::accepted(0, 0));
-    desk.open(1_366);
+    desk.open(1_157);
     assert_eq!(desk.expire(), Answer::accepted(1, 300));
     assert_eq!(desk.claim(ticket).code, 19);
     desk.difference.expect("house and sheet agree");
 }
 
-/// Days at the end of their two bytes do not wrap round.
+/// Days at the end of their two bytes do not wrap round. Day 65,535 is 5 June
+/// 2177: what finished on 4 June 2176 expires on it, and nothing later does.
 #[test]
 fn the_last_days() {
     let mut desk = desk();
-    desk.open(65_300);
-    desk.straight(0, 1, 100, &[1]);
-    desk.draw(&FIRST_TWENTY);
-    desk.open(65_535);
+    for (day, stake) in [(65_169, 100), (65_170, 200), (65_300, 400)] {
+        desk.open(day);
+        desk.straight(0, 1, stake, &[1]);
+        desk.draw(&FIRST_TWENTY);
+    }
+    desk.open(65_534);
     assert_eq!(desk.expire(), Answer::accepted(0, 0));
+    desk.open(65_535);
+    assert_eq!(desk.expire(), Answer::accepted(1, 300));
     assert_eq!(desk.open(65_535).code, 5);
     desk.difference.expect("house and sheet agree");
 }

@@ -51,6 +51,8 @@ fn no_live_tickets() {
 #[test]
 fn closed_in_the_middle() {
     let mut desk = Desk::new(Flaw::None);
+    // 1 March 1999.
+    desk.open(425);
     sell(&mut desk, &[2, 1, 0, 1, 1, 0, 2, 1]);
     check_list(&desk.house, &[1, 2, 3, 4, 5, 6, 7, 8]);
     desk.cancel(4);
@@ -61,16 +63,17 @@ fn closed_in_the_middle() {
     assert_eq!(desk.pays(5), 300);
     check_list(&desk.house, &[1, 2, 7, 8]);
 
-    desk.open(2);
+    desk.open(426);
     sell(&mut desk, &[0, 1]);
     check_list(&desk.house, &[1, 2, 7, 8, 9, 10]);
     desk.draw(&FIRST_TWENTY);
     check_list(&desk.house, &[1, 2, 7, 8, 10]);
-    desk.open(366);
+    // 1 March 2000.
+    desk.open(791);
     assert_eq!(desk.expire(), Answer::accepted(0, 0));
     check_list(&desk.house, &[1, 2, 7, 8, 10]);
-    // 2 and 8 were finished on day 1, the others on day 2.
-    desk.open(367);
+    // 2 and 8 were finished on 1 March 1999, the others on the 2nd.
+    desk.open(792);
     assert_eq!(desk.expire(), Answer::accepted(2, 600));
     check_list(&desk.house, &[1, 7, 10]);
     sell(&mut desk, &[1, 1]);

@@ -9,6 +9,7 @@
 //! |---------------------------------------------|----------------|
 //! | Ways, Price, Prizes and their schedules      | [`sweeps`]     |
 //! | Cuts, jackpots, Keno To Go, cancels, expiry  | [`scenarios`]  |
+//! | The end of every February, as asked since    | [`scenarios`]  |
 //! | All of it at once, refusals included         | [`mixed`]      |
 //! | The roll, when it is damaged or cut off      | [`damaged`]    |
 //! | The limits of 9,999,999                      | [`far_games`]  |
@@ -50,6 +51,7 @@ pub fn everything(seed: u64) -> Vec<NamedRoll> {
         ("keno to go", scenarios::keno_to_go(seed)),
         ("cancels", scenarios::cancels(seed)),
         ("expiries", scenarios::expiries(seed)),
+        ("februaries", scenarios::februaries(seed)),
         ("crowded lounge", scenarios::crowded_lounge(seed)),
         ("transfers", scenarios::transfers(seed)),
         ("mixed", mixed::mixed_set(seed, 60, 1_000)),

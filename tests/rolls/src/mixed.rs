@@ -8,13 +8,17 @@ use crate::random::Random;
 use crate::shapes;
 use crate::writer::RollWriter;
 use reference::ledger::LEDGER_BYTES;
-use reference::{Command, House, Ticket};
+use reference::{Calendar, Command, Date, House, Ticket};
 
 /// So many numbers are favoured.
 const FAVOURED: usize = 24;
 
 /// Every so many rolls, one begins with a full lounge.
 const RUSH_EVERY: usize = 10;
+
+/// Years from which the next leap year is not far, or 2100, which is none.
+const EARLY_YEARS: [u32; 3] = [1999, 2000, 2003];
+const LATE_YEARS: [u32; 3] = [2098, 2099, 2103];
 
 /// Rolls of so many commands, each with a seed of its own; every tenth begins
 /// with a rush of guests.
@@ -100,20 +104,54 @@ impl Lounge {
         }
     }
 
-    /// Mostly the next day, sometimes a year on, when what is left expires.
+    /// Mostly the next day, sometimes a year on, when what is left expires, and
+    /// now and then the end of the next February.
     fn open(&mut self) {
         let today = self.writer.house().today();
         if self.random.percent(10) {
             let back = self.random.below(3) as u16;
             self.writer.open(today.saturating_sub(back));
+        } else if today == 0 {
+            self.open_first_day();
         } else if self.random.percent(20) {
-            let days = self.random.between(364, 400) as u16;
-            self.writer.open_after(days);
+            self.open_a_year_on();
             self.writer.expire();
+        } else if self.random.percent(10) {
+            let year = Calendar::GREGORIAN.date(today).year;
+            let passed = today >= end_of_february(year, 0);
+            self.open_end_of_february(if passed { year + 1 } else { year });
         } else {
             let days = self.random.between(1, 3) as u16;
             self.writer.open_after(days);
         }
+    }
+
+    /// The last day of some ticket that is due, or one soon after it.
+    fn open_a_year_on(&mut self) {
+        let house = self.writer.house();
+        let due: Vec<u16> = house.live_tickets().filter_map(|ticket| ticket.finished_on).collect();
+        let finished_on = if due.is_empty() { house.today() } else { self.random.pick(&due) };
+        let last = Calendar::GREGORIAN.stands_through(finished_on);
+        let day = last + self.random.pick(&[0, 0, 1, 1, 1, 30]);
+        let tomorrow = self.writer.house().today().saturating_add(1);
+        self.writer.open(u16::try_from(day).unwrap_or(u16::MAX).max(tomorrow));
+    }
+
+    /// The end of a February, mostly of an early one: days only ever rise.
+    fn open_first_day(&mut self) {
+        let year = match self.random.below(10) {
+            0..=2 => 1998,
+            3..=5 => self.random.pick(&EARLY_YEARS),
+            6..=8 => self.random.pick(&LATE_YEARS),
+            _ => self.random.between(1998, 2160) as u32,
+        };
+        self.open_end_of_february(year);
+    }
+
+    /// 27 February to 3 March.
+    fn open_end_of_february(&mut self, year: u32) {
+        let days = self.random.below(5) as u16;
+        self.writer.open(end_of_february(year, days));
     }
 
     fn sell(&mut self) {
@@ -246,4 +284,10 @@ impl Lounge {
         }
         self.writer.give(&Command::decode(&bytes));
     }
+}
+
+/// 27 February of the year, or so many days after it.
+fn end_of_february(year: u32, days_after: u16) -> u16 {
+    let february = Calendar::GREGORIAN.day(Date { year, month: 2, day: 27 });
+    u16::try_from(february).unwrap_or(u16::MAX).saturating_add(days_after)
 }

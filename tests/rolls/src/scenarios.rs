@@ -1,11 +1,12 @@
 //! The places that document 01 names: cuts with many winners, shared jackpots,
-//! Keno To Go, cancels about the draw, days about the expiry, 200 tickets,
-//! transfers.
+//! Keno To Go, cancels about the draw, days about the expiry, the end of every
+//! February, 200 tickets, transfers.
 
 use crate::random::Random;
 use crate::shapes::{self, EIGHTS, JACKPOT, SIXES, SPECIAL_TWO, STANDARD};
 use crate::writer::RollWriter;
-use reference::House;
+use reference::{Calendar, Date, House};
+use std::ops::RangeInclusive;
 
 /// 200 way tickets with eight groups and types 255 on the numbers that will be
 /// drawn: once with every way a full match, so that all majors are floored and
@@ -276,11 +277,13 @@ fn cancel_at(
 }
 
 /// Tickets that finish on several days, by the draw and by a cancel, and an
-/// Expire on each day about 365 after; some are claimed on the last day.
+/// Expire on each day about a year on; some are claimed on the last day.
 pub fn expiries(seed: u64) -> Vec<Vec<u8>> {
     let mut random = Random::new(seed ^ 0xE0);
-    // The last set comes near the end of the two bytes of a day.
-    [1, 300, 64_400, 65_100].into_iter().map(|day| expiry_days(&mut random, day)).collect()
+    // The second and the third begin on 27 February 1999 and 2099; the last comes
+    // near the end of the two bytes of a day.
+    let first_days = [1, 423, 36_948, 64_400, 65_100];
+    first_days.into_iter().map(|day| expiry_days(&mut random, day)).collect()
 }
 
 fn expiry_days(random: &mut Random, first_day: u16) -> Vec<u8> {
@@ -298,8 +301,9 @@ fn expiry_days(random: &mut Random, first_day: u16) -> Vec<u8> {
         writer.cancel(cut_short);
         writer.open_after(1);
     }
-    // From a year after the first finishing day to past the last one.
-    for day in first_day.saturating_add(363)..=first_day.saturating_add(371) {
+    // From two days before the first has stood for a year to past the last one.
+    let a_year_on = Calendar::GREGORIAN.stands_through(first_day) as u16;
+    for day in a_year_on - 2..=a_year_on + 6 {
         writer.open(day);
         let claimed = random.between(1, u64::from(writer.house().issued())) as u32;
         writer.claim(claimed);
@@ -311,6 +315,60 @@ fn expiry_days(random: &mut Random, first_day: u16) -> Vec<u8> {
     }
     writer.claim_last(24);
     writer.finish()
+}
+
+/// The years in which a February ends on a day that an Open can name.
+const FIRST_YEAR: u32 = 1998;
+const LAST_YEAR: u32 = 2177;
+
+/// Every end of a February from 1998 to 2177. Two tickets finish on each day from
+/// 27 February to 2 March; the next year one is claimed on its last day, and an
+/// Expire on each day about it takes the other.
+pub fn februaries(seed: u64) -> Vec<Vec<u8>> {
+    let mut random = Random::new(seed ^ 0x29);
+    // Years that the program has room for; the last of a roll begins the next.
+    let years = |first: u32| first..=(first + 20).min(LAST_YEAR);
+    let firsts = (FIRST_YEAR..LAST_YEAR).step_by(20);
+    firsts.map(|first| februaries_of(&mut random, years(first))).collect()
+}
+
+fn februaries_of(random: &mut Random, years: RangeInclusive<u32>) -> Vec<u8> {
+    let mut writer = RollWriter::new();
+    for year in years {
+        let day = |month, day| Calendar::GREGORIAN.day(Date { year, month, day }) as u16;
+        let (first, last) = (day(2, 26), day(3, 3));
+        for day in first..=last {
+            writer.open(day);
+            writer.expire();
+            claim_on_the_last_day(&mut writer);
+            if day != first && day != last {
+                two_winners(&mut writer, random);
+            }
+        }
+    }
+    writer.finish()
+}
+
+/// Of two tickets that finished on a day, the one with the odd number.
+fn claim_on_the_last_day(writer: &mut RollWriter) {
+    let today = u32::from(writer.house().today());
+    let is_last_day = |finished_on| Calendar::GREGORIAN.stands_through(finished_on) == today;
+    let odd = writer.house().live_tickets().filter(|ticket| ticket.number % 2 == 1);
+    let leaving = odd.filter(|ticket| ticket.finished_on.is_some_and(is_last_day));
+    let numbers: Vec<u32> = leaving.map(|ticket| ticket.number).collect();
+    for number in numbers {
+        writer.claim(number);
+    }
+}
+
+/// Both on the first ball, mostly at stakes of their own.
+fn two_winners(writer: &mut RollWriter, random: &mut Random) {
+    let numbers = random.numbers();
+    for _ticket in 0..2 {
+        let stake = random.between(1, 60) as u32 * 100;
+        writer.straight(STANDARD, 1, stake, &numbers[..1]);
+    }
+    writer.balls(&numbers[..20]);
 }
 
 /// 200 live tickets and the 201st, again after a cancel, a claim, a loss and an
@@ -359,7 +417,7 @@ pub fn transfers(seed: u64) -> Vec<Vec<u8>> {
         writer.straight(STANDARD, 1, stake, &numbers[..3]);
         writer.balls(&numbers[..20]);
         writer.transfer(6, 1);
-        writer.open_after(366);
+        writer.open_a_year_on(1);
         writer.expire();
         transfer_unclaimed(&mut writer, &mut random);
         for size in [6, 6, 8, 8] {

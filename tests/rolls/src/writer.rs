@@ -1,7 +1,7 @@
 //! Writes the commands of "The house" on a roll and carries them out on a
 //! reference house along the way.
 
-use reference::{Answer, Command, House};
+use reference::{Answer, Calendar, Command, House};
 
 pub struct RollWriter {
     house: House,
@@ -57,6 +57,13 @@ impl RollWriter {
     /// Opens a day so many days after today.
     pub fn open_after(&mut self, days: u16) -> Answer {
         self.open(self.house.today().saturating_add(days))
+    }
+
+    /// Opens the last day on which what finishes today has not expired, or a day
+    /// so many days after it.
+    pub fn open_a_year_on(&mut self, days_after: u16) -> Answer {
+        let last = Calendar::GREGORIAN.stands_through(self.house.today());
+        self.open(u16::try_from(last).unwrap_or(u16::MAX).saturating_add(days_after))
     }
 
     pub fn sell(&mut self, kind: u8, games: u8, stake: u32, groups: &[&[u8]], types: u8) -> Answer {

@@ -23,6 +23,10 @@ fn scenarios_find_their_flaws() {
         (Flaw::PoolsAtSale, scenarios::keno_to_go(SEED)),
         (Flaw::OddCentsToLast, scenarios::shared_jackpots(SEED)),
         (Flaw::OddCentsToLast, scenarios::transfers(SEED)),
+        (Flaw::YearOf365Days, scenarios::expiries(SEED)),
+        (Flaw::YearOf365Days, scenarios::februaries(SEED)),
+        (Flaw::EveryFourthYearLeaps, scenarios::expiries(SEED)),
+        (Flaw::EveryFourthYearLeaps, scenarios::februaries(SEED)),
     ];
     for (flaw, rolls) in sets {
         assert!(finds(flaw, &rolls), "{flaw:?}");

@@ -5,6 +5,7 @@ use reference::roll::{read_answer, ANSWER_BYTES};
 use reference::settlement::Settlement;
 use reference::{run_roll, Answer, Closing, Command, House, Kind, Standing};
 use rolls::{scenarios, sweeps};
+use std::collections::BTreeMap;
 
 const SEED: u64 = 1998;
 
@@ -132,12 +133,70 @@ fn expiries_take_some_and_leave_some() {
             .filter(|(byte, _)| *byte == EXPIRE)
             .map(|(_, answer)| answer.number)
             .collect();
-        assert_eq!(expiries[..4], [0, 0, 0, 0], "days 363 to 364 and 364 to 365");
+        assert_eq!(expiries[..6], [0; 6], "up to a year on from the first finishing day");
         assert!(expiries.iter().filter(|&&number| number > 0).count() >= 4, "{expiries:?}");
         assert!(count(&answers, TRANSFER, 0) > 0);
         assert!(house.tickets().iter().any(|t| t.closing == Some(Closing::Claimed)), "{set}");
         assert!(house.live_tickets().count() >= 4, "100 games are not finished");
     }
+}
+
+/// Finishing days from 27 February to 2 March and the last day of each, by the
+/// dates: the same one of the next year, and for a 29 February that of the 28th.
+fn ends_of_february() -> Vec<(u16, u16)> {
+    let has_29_days = |year: u32| year.is_multiple_of(4) && year != 2100;
+    let mut days = Vec::new();
+    // 1 March 1998.
+    let mut march = 60;
+    for year in 1998..2177 {
+        let next_march = march + if has_29_days(year + 1) { 366 } else { 365 };
+        let february_28 = march - if has_29_days(year) { 2 } else { 1 };
+        let next_february_28 = next_march - if has_29_days(year + 1) { 2 } else { 1 };
+        days.push((february_28 - 1, next_february_28 - 1));
+        days.push((february_28, next_february_28));
+        if has_29_days(year) {
+            days.push((march - 1, next_february_28));
+        }
+        days.push((march, next_march));
+        days.push((march + 1, next_march + 1));
+        march = next_march;
+    }
+    // 2 March 2176 and 2177.
+    assert_eq!(days.last(), Some(&(65_075, 65_440)));
+    days
+}
+
+/// The day that closed a ticket in this way, by its finishing day.
+fn days_closed(roll: &[u8], closing: Closing) -> BTreeMap<u16, u16> {
+    let mut house = House::fresh();
+    let mut days = BTreeMap::new();
+    let mut unread = roll;
+    while !unread.is_empty() {
+        let length = reference::command::length(unread[0]).expect("a known command");
+        house.command(&Command::decode(&unread[..length]));
+        for ticket in house.tickets().iter().filter(|ticket| ticket.closing == Some(closing)) {
+            let finished_on = ticket.finished_on.expect("a closed ticket is finished");
+            days.entry(finished_on).or_insert(house.today());
+        }
+        unread = &unread[length..];
+    }
+    days
+}
+
+/// On its last day a ticket is paid; the day after, an Expire takes the other one.
+#[test]
+fn februaries_are_closed_by_the_date() {
+    let rolls = scenarios::februaries(SEED);
+    let closed = |closing| -> Vec<(u16, u16)> {
+        rolls.iter().flat_map(|roll| days_closed(roll, closing)).collect()
+    };
+    let days = ends_of_february();
+    for known in [(425, 791), (789, 1_155), (790, 1_155), (791, 1_156), (36_950, 37_315)] {
+        assert!(days.contains(&known), "{known:?}");
+    }
+    assert_eq!(closed(Closing::Claimed), days);
+    let day_after = |&(finished_on, last): &(u16, u16)| (finished_on, last + 1);
+    assert_eq!(closed(Closing::Expired), days.iter().map(day_after).collect::<Vec<_>>());
 }
 
 #[test]

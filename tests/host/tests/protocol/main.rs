@@ -29,6 +29,7 @@ fn check(document: &Document) -> Checked {
     rules::schedules(document)?;
     rules::cuts(document)?;
     rules::jackpots(document)?;
+    rules::expiry(document)?;
     examples::worked(document)?;
     examples::by_hand(document)?;
     examples::journal(document)
@@ -99,6 +100,8 @@ fn other_names_are_seen() {
         ("| paid | claims", "| refunded | claims"),
         ("| the ticket is closed |", "| the ticket is open |"),
         ("| primary | 15 |", "| reimbursement | 15 |"),
+        ("| 29 February 2000 |", "| 29 January 2000 |"),
+        ("| 5 June 2177 |", "| 5 July 2177 |"),
     ];
     for (text, other) in others {
         let damaged = PROTOCOL.replacen(text, other, 1);

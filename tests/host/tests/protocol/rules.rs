@@ -6,7 +6,7 @@ use reference::jackpots::{shares, Jackpots};
 use reference::price::{paid_games, stake_in_order, MOST_CHARGE, MOST_GAMES};
 use reference::prizes::{cut, CAP, MAJOR, MAJORS_TOGETHER};
 use reference::schedule::{special_one, special_two, standard};
-use reference::{ways, Flaw, House, Kind};
+use reference::{ways, Calendar, Flaw, House, Kind};
 
 pub fn limits(document: &Document) -> Checked {
     let limits = [
@@ -15,7 +15,6 @@ pub fn limits(document: &Document) -> Checked {
         ("live tickets", House::MOST_LIVE_TICKETS as i128),
         ("last ticket number", i128::from(House::LAST_TICKET)),
         ("last game", i128::from(House::LAST_GAME)),
-        ("days after which a finished ticket expires", i128::from(House::CLAIM_DAYS)),
         ("dearest ticket, cents", MOST_CHARGE),
         ("most that a way wins, jackpot tickets aside, cents", CAP),
         ("least major prize, cents", MAJOR),
@@ -133,6 +132,29 @@ pub fn jackpots(document: &Document) -> Checked {
         same("shares", numbers(row[2])?, found)?;
     }
     Ok(())
+}
+
+/// Finishing days, the last days of what finished on them, and the dates of both.
+pub fn expiry(document: &Document) -> Checked {
+    let rows = document.table("Finishing day", "Its date");
+    same("finishing days", rows.len(), 7)?;
+    for row in rows {
+        same(row[0], row[1].to_string(), date_of(row[0])?)?;
+        let last = Calendar::GREGORIAN.stands_through(day(row[0])?);
+        same(row[1], number(row[2])?, i128::from(last))?;
+        same(row[2], row[3].to_string(), date_of(row[2])?)?;
+    }
+    Ok(())
+}
+
+/// A day that an Open can name.
+fn day(cell: &str) -> Result<u16, String> {
+    let day = u16::try_from(number(cell)?).ok().filter(|&day| day > 0);
+    day.ok_or_else(|| format!("{cell:?} is no day"))
+}
+
+fn date_of(cell: &str) -> Result<String, String> {
+    Ok(Calendar::GREGORIAN.date(day(cell)?).to_string())
 }
 
 fn contributions(document: &Document) -> Checked {

@@ -93,15 +93,17 @@ fn tickets() -> Vec<u8> {
 
 /// Every jackpot byte, and cents about what is unclaimed.
 fn transfers() -> Vec<u8> {
-    let mut writer = RollWriter::opened();
+    let mut writer = RollWriter::new();
+    // 1 March 1999, and 1 and 2 March 2000.
+    writer.open(425);
     for _ticket in 0..20 {
         writer.straight(0, 1, 5_000, &[1, 2, 3, 4, 5, 6]);
     }
     writer.transfer(6, 1);
     writer.balls(&(1..=20).collect::<Vec<u8>>());
-    writer.open(366);
+    writer.open(791);
     writer.expire();
-    writer.open(367);
+    writer.open(792);
     writer.transfer(6, 1);
     writer.expire();
     for jackpot in 0..=255 {
@@ -119,7 +121,8 @@ fn transfers() -> Vec<u8> {
     writer.finish()
 }
 
-/// Up to the last day that an Open can name, and expiry about it.
+/// Up to the last day that an Open can name, and expiry about it: 65,169 and
+/// 65,170 are a year before the last day but one and the last.
 fn days() -> Vec<u8> {
     let mut writer = RollWriter::new();
     for day in [0, 1, 255, 256, 255, 65_169, 65_170] {

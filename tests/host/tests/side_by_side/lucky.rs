@@ -20,7 +20,8 @@ struct Guests {
 
 fn lucky_roll(random: &mut Random) -> Vec<u8> {
     let mut writer = RollWriter::new();
-    writer.open(random.pick(&[1, 64_500]));
+    // 1 March 1999 and 2099 among them.
+    writer.open(random.pick(&[1, 425, 36_950, 64_500]));
     for _game in 0..4 {
         let numbers = random.numbers();
         let luck = random.pick(&[70, 85, 95, 100]);
@@ -33,8 +34,11 @@ fn lucky_roll(random: &mut Random) -> Vec<u8> {
         if random.percent(60) {
             writer.claim_last(tickets);
         }
-        let days = random.pick(&[1, 365, 366]);
-        writer.open_after(days);
+        // The next day, a year on, or the day after that.
+        match random.below(3) {
+            0 => writer.open_after(1),
+            days => writer.open_a_year_on(days as u16 - 1),
+        };
         writer.expire();
         give_some_back(&mut writer, random);
     }

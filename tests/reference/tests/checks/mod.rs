@@ -6,6 +6,7 @@
 // Each test file is a program of its own and uses its part of this.
 #![allow(dead_code)]
 
+pub mod dates;
 pub mod examples;
 pub mod traps;
 
@@ -19,7 +20,7 @@ pub type NamedCheck = (&'static str, fn(Flaw) -> Check);
 
 /// Every check, by name.
 pub fn all() -> Vec<NamedCheck> {
-    [examples::ALL, traps::ALL].concat()
+    [examples::ALL, traps::ALL, dates::ALL].concat()
 }
 
 pub fn expect<T: PartialEq + Debug>(what: &str, got: T, want: T) -> Check {

@@ -41,7 +41,8 @@ fn balls(live: u32) -> Case {
     Case::repeated(&name, writer.finish(), 0, 19, |index| Command::Ball { number: index as u8 + 1 })
 }
 
-/// One Expire for 200 winners who did not come.
+/// One Expire for 200 winners of 1 January 1998 who did not come within the year:
+/// day 367 is 2 January 1999.
 pub fn expiry() -> Case {
     let mut writer = RollWriter::opened();
     sell(&mut writer, 200);
