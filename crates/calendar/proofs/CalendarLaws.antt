@@ -10,8 +10,8 @@ use lib.Dec.{ltb, eqb}
 use borrow.Author.Tests.{eqb-true, eqb-false, ltb-true, ltb-false, lt-ltb, le-ltb, ne-eqb}
 use Rattle.calendar.specs.Calendar.{Date, dateOf, dayOf, IsDate, aYearOn, isLater, hasExpired, dayAYearOn}
 use Rattle.calendar.specs.Bounds.{yearBefore}
-use Rattle.calendar.proofs.DateLaws.{dates-numbered, only-date, number-positive}
-use Rattle.calendar.proofs.DateOrder.{later-by-number}
+use Rattle.calendar.proofs.DateLaws.{dates-numbered}
+use Rattle.calendar.proofs.DateOrder.{number-positive, later-by-number, same-number}
 use Rattle.calendar.proofs.YearOn.{two-lengths, on-day, on-date}
 
 numbered-date : (n : ℕ) → 0 < n → IsDate (dateOf n) × (dayOf (dateOf n) ≡ n)
@@ -19,11 +19,10 @@ numbered-date zero h = absurd (not-suc-le-zero h)
 numbered-date (suc n) h = (dates-numbered n .date, dates-numbered n .number)
 
 dated-number : (x : Date) → IsDate x → (0 < dayOf x) × (dateOf (dayOf x) ≡ x)
-dated-number x d = (number-positive x d, go (dayOf x) refl)
-  where
-    go : (n : ℕ) → dayOf x ≡ n → dateOf n ≡ x
-    go zero e = absurd (omega (arith, number-positive x d))
-    go (suc n) e = only-date n x (record { date = d; number = e })
+dated-number x d =
+    let positive : 0 < dayOf x = number-positive x d in
+    let here = numbered-date (dayOf x) positive in
+    (positive, same-number x (dateOf (dayOf x)) d (here .0) (here .1))
 
 -- each day from 1 on has a date, whose number it is, and each date has a number from 1 on, whose date it is
 pub each-others-inverse :

@@ -1,14 +1,13 @@
--- Day numbers and dates are each other's inverse: the next day has the next number, and every date but that of day 1 is the next day of another.
+-- Every day from 1 on has a date, whose number it is: the next day has the next number, within a month, to the next month and to the next year.
 use Prim.Native.Nat.{ℕ, zero, suc, _+_, _-_, _≤_, _<_}
 use native.Mathlib.Nat.{le-of-suc-le-suc, not-suc-le-zero}
 use native.Mathlib.Omega.{arith}
-use mathlib.Core.Path.{_≡_, refl, sym, ap, ap₂, _∙_, subst⁻¹}
+use mathlib.Core.Path.{_≡_, refl, sym, ap, _∙_, subst⁻¹}
 use mathlib.Core.Bool.{Bool, true, false, cond, _&&_}
 use mathlib.Core.List.{List, [], _∷_}
-use mathlib.Core.Logic.{_⊎_, inl, inr, ⊎-elim}
-use lib.Dec.{ltb, leb, eqb}
+use lib.Dec.{ltb, eqb}
 use lib.ListN.{length, getD}
-use borrow.Author.Tests.{ltb-true, ltb-false, leb-true, leb-false, lt-ltb, le-ltb}
+use borrow.Author.Tests.{ltb-true, ltb-false, lt-ltb, le-ltb}
 use Rattle.calendar.specs.Calendar.{Date, isLeapYear, monthLengths, monthLength, nextDay, dateOf, monthDays, yearDays, dayOf, IsDate}
 use Rattle.calendar.proofs.KnownDays.{date, day-one}
 
@@ -151,122 +150,11 @@ module _ (x : Date) (n : ℕ) (h : Numbered x n) where
 
 -- every day from 1 on has a date, with its number
 pub dates-numbered : (n : ℕ) → Numbered (dateOf (suc n)) (suc n)
-unfolding dateOf nextDay monthLength isLeapYear dayOf yearDays monthDays
-dates-numbered zero =
-    record { date = record { year = omega arith; month = omega arith; inYear = omega arith; day = omega arith; inMonth = omega arith }; number = refl }
-dates-numbered (suc n) = next-numbered (dateOf (suc n)) (suc n) (dates-numbered n)
-
--- ---- the day before
-
-record Previous (x : Date) (n : ℕ) : Type 0 where
-  before : Date
-  numbered : Numbered before n
-  next : nextDay before ≡ x
-
-module _ (x : Date) (n : ℕ) (h : Numbered x (suc n)) where
-  earlier : 2 ≤ x .day → Previous x n
-  unfolding dayOf
-  earlier d =
-      let same : x .day - 1 + 1 ≡ x .day = omega arith in
-      record {
-        before = date (x .day - 1) (x .month) (x .year);
-        numbered =
-            record {
-              date =
-                  record { year = h .date .year; month = h .date .month; inYear = h .date .inYear; day = omega arith; inMonth = omega (arith, h .date .inMonth) };
-              number = omega (arith, h .number);
-            };
-        next =
-            next-in-month (date (x .day - 1) (x .month) (x .year)) (omega (arith, h .date .inMonth))
-            ∙ ap (λ day. date day (x .month) (x .year)) same;
-      }
-
-  last-month : x .day ≡ 1 → 2 ≤ x .month → Previous x n
-  unfolding dayOf
-  last-month d m =
-      let y = x .year in
-      let before : Date = date (monthLength y (x .month - 1)) (x .month - 1) y in
-      let same : x .month - 1 + 1 ≡ x .month = omega arith in
-      record {
-        before = before;
-        numbered =
-            record {
-              date =
-                  record {
-                    year = h .date .year;
-                    month = omega arith;
-                    inYear = omega (arith, h .date .inYear);
-                    day = month-positive y (x .month - 1) (omega arith) (omega (arith, h .date .inYear));
-                    inMonth = omega arith;
-                  };
-              number = omega (arith, h .number, month-more y (x .month - 1) (omega arith));
-            };
-        next = next-in-year before (omega arith) (omega (arith, h .date .inYear)) ∙ ap₂ (λ month day. date day month y) same (sym d);
-      }
-
-  last-year : x .day ≡ 1 → x .month ≡ 1 → 1999 ≤ x .year → Previous x n
-  unfolding dayOf
-  last-year d m y =
-      let year = x .year - 1 in
-      let before : Date = date (monthLength year 12) 12 year in
-      let same : year + 1 ≡ x .year = omega arith in
-      let none : monthDays (x .year) (x .month - 1) ≡ 0 = ap (λ month. monthDays (x .year) (month - 1)) m ∙ no-months (x .year) in
-      let years : yearDays (x .year - 1998) ≡ yearDays (year - 1998) + monthDays year 12 =
-      ap (λ k. yearDays (k - 1998)) (sym same) ∙ year-more year (omega arith) in
-      record {
-        before = before;
-        numbered =
-            record {
-              date =
-                  record {
-                    year = omega arith;
-                    month = omega arith;
-                    inYear = omega arith;
-                    day = month-positive year 12 (omega arith) (omega arith);
-                    inMonth = omega arith;
-                  };
-              number = omega (arith, h .number, month-more year 12 (omega arith), none, years);
-            };
-        next =
-            next-after before (omega arith) (omega arith)
-            ∙ ap (λ y. date 1 1 y) same
-            ∙ ap₂ (λ month day. date day month (x .year)) (sym m) (sym d);
-      }
-
-  origin : Previous x n ⊎ (x ≡ date 1 1 1998)
-  origin = go (leb 2 (x .day)) (leb 2 (x .month)) (leb 1999 (x .year)) refl refl refl
-    where
-      go :
-          (day month year : Bool)
-          → leb 2 (x .day) ≡ day
-          → leb 2 (x .month) ≡ month
-          → leb 1999 (x .year) ≡ year
-          → Previous x n ⊎ (x ≡ date 1 1 1998)
-      go true month year d m y = inl (earlier (leb-true 2 (x .day) d))
-      go false true year d m y =
-          inl (last-month (omega (arith, h .date .day, leb-false 2 (x .day) d)) (leb-true 2 (x .month) m))
-      go false false true d m y =
-          inl (last-year (omega (arith, h .date .day, leb-false 2 (x .day) d)) (omega (arith, h .date .month, leb-false 2 (x .month) m)) (leb-true 1999 (x .year) y))
-      go false false false d m y =
-          let day : x .day ≡ 1 = omega (arith, h .date .day, leb-false 2 (x .day) d) in
-          let month : x .month ≡ 1 = omega (arith, h .date .month, leb-false 2 (x .month) m) in
-          let year : x .year ≡ 1998 = omega (arith, h .date .year, leb-false 1999 (x .year) y) in
-          inr (ap (λ y. date (x .day) (x .month) y) year ∙ ap₂ (λ m d. date d m 1998) month day)
-
-pub number-positive : (x : Date) → IsDate x → 0 < dayOf x
-unfolding dayOf
-number-positive x d = omega (arith, d .day)
-
--- only one date has a day's number
-pub only-date : (n : ℕ) (x : Date) → Numbered x (suc n) → dateOf (suc n) ≡ x
 unfolding dateOf
-only-date zero x h =
-    ⊎-elim
-    (λ p. absurd (omega (arith, number-positive (p .before) (p .numbered .date), p .numbered .number)))
-    (λ e. day-one .0 ∙ sym e)
-    (origin x 0 h)
-only-date (suc n) x h =
-    ⊎-elim
-    (λ p. ap nextDay (only-date n (p .before) (p .numbered)) ∙ p .next)
-    (λ e. absurd (omega (arith, day-one .1, ap dayOf e, h .number)))
-    (origin x (suc n) h)
+dates-numbered zero =
+    subst⁻¹ (λ x. Numbered x 1) (day-one .0)
+    (record {
+      date = record { year = omega arith; month = omega arith; inYear = omega arith; day = omega arith; inMonth = month-positive 1998 1 (omega arith) (omega arith) };
+      number = day-one .1;
+    })
+dates-numbered (suc n) = next-numbered (dateOf (suc n)) (suc n) (dates-numbered n)

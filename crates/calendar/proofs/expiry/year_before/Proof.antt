@@ -1,8 +1,7 @@
 -- `calendar::expiry::year_before` meets its contract: each way out is one of the places that `yearBefore` tells apart.
 use Prim.Native.Nat.{ℕ, _+_, _%_}
-use mathlib.Core.Path.{_≡_, sym, ap, _∙_}
+use mathlib.Core.Path.{_≡_, sym}
 use native.Mathlib.Nat.{mod-add-mod}
-use native.Mathlib.Omega.{arith}
 use borrow.Author.Needs.{needs}
 use Rattle.calendar.specs.Bounds.{sinceRound, yearBefore}
 use Rattle.calendar.proofs.LeapDays.{long-first, long-later, short-first, short-later}
