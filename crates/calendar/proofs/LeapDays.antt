@@ -1,14 +1,15 @@
--- A year on, in days: from 1 March to 1 March a year has 365 days, and 366 where it ends with a leap day. Counted from a 1 March, the leap days come
--- at fixed places of 400 years, and these are the places that `yearBefore` tells.
+-- Where a leap day has passed within a year: counted from a 1 March, leap days come at fixed places of the calendar's cycle of 400 years, and these are the places
+-- that `yearBefore` tells.
 use Prim.Native.Nat.{ℕ, zero, suc, _+_, _-_, _*_, _/_, _%_, _≤_, _<_}
 use native.Mathlib.Nat.{mod-eq-of-lt, mul-add-mod-self-left}
 use native.Mathlib.Omega.{arith}
 use mathlib.Core.Path.{_≡_, refl, sym, ap, _∙_, subst⁻¹}
 use mathlib.Core.Bool.{Bool, true, false, false≢true, true≢false, cond, not, _&&_, _||_, or-true, and-false}
+use mathlib.Core.Logic.{_⊎_, inl, inr, ⊎-elim}
 use lib.Dec.{ltb, leb, eqb}
 use borrow.Author.Tests.{eqb-true, eqb-false, ltb-true, ltb-false, lt-ltb, le-ltb, le-leb, lt-leb, ne-eqb}
 use Rattle.calendar.specs.Calendar.{isLeapYear, monthLength, monthDays, yearDays}
-use Rattle.calendar.specs.Bounds.{sinceRound, yearBefore}
+use Rattle.calendar.specs.Bounds.{cycleDay, yearBefore}
 
 -- ---- leap years
 
@@ -98,20 +99,20 @@ places y = record { year = omega arith; centuries = omega arith; fours = omega a
 
 -- ---- what `yearBefore` tells of a place in 400 years
 
-abbrev inRound : ℕ → ℕ
-inRound since = cond (ltb since 365 || (leb 1461 (since % 36524) && ltb (since % 36524 % 1461) 365)) 366 365
+abbrev byCycleDay : ℕ → ℕ
+byCycleDay day = cond (ltb day 365 || (leb 1461 (day % 36524) && ltb (day % 36524 % 1461) 365)) 366 365
 
-pub long-first : (since : ℕ) → since < 365 → inRound since ≡ 366
-long-first since h = rw (lt-ltb since 365 h)
+pub long-first : (day : ℕ) → day < 365 → byCycleDay day ≡ 366
+long-first day h = rw (lt-ltb day 365 h)
 
-pub long-later : (since : ℕ) → 1461 ≤ since % 36524 → since % 36524 % 1461 < 365 → inRound since ≡ 366
-long-later since four year = rw (le-leb 1461 (since % 36524) four, lt-ltb (since % 36524 % 1461) 365 year, or-true (ltb since 365))
+pub long-later : (day : ℕ) → 1461 ≤ day % 36524 → day % 36524 % 1461 < 365 → byCycleDay day ≡ 366
+long-later day four year = rw (le-leb 1461 (day % 36524) four, lt-ltb (day % 36524 % 1461) 365 year, or-true (ltb day 365))
 
-pub short-first : (since : ℕ) → 365 ≤ since → since % 36524 < 1461 → inRound since ≡ 365
-short-first since h four = rw (le-ltb since 365 h, lt-leb 1461 (since % 36524) four)
+pub short-first : (day : ℕ) → 365 ≤ day → day % 36524 < 1461 → byCycleDay day ≡ 365
+short-first day h four = rw (le-ltb day 365 h, lt-leb 1461 (day % 36524) four)
 
-pub short-later : (since : ℕ) → 365 ≤ since → 365 ≤ since % 36524 % 1461 → inRound since ≡ 365
-short-later since h year = rw (le-ltb since 365 h, le-ltb (since % 36524 % 1461) 365 year, and-false (leb 1461 (since % 36524)))
+pub short-later : (day : ℕ) → 365 ≤ day → 365 ≤ day % 36524 % 1461 → byCycleDay day ≡ 365
+short-later day h year = rw (le-ltb day 365 h, le-ltb (day % 36524 % 1461) 365 year, and-false (leb 1461 (day % 36524)))
 
 -- what is left over of whole parts
 left-over : (n m part rest : ℕ) → n ≡ m * part + rest → rest < m → n % m ≡ rest
@@ -128,38 +129,32 @@ module _ (y q c b a : ℕ) (p : Places y q c b a) where
       )
 
   -- a leap year begins four years, and those that begin a century only where that begins 400 years
-  leap-place : isLeapYear y ≡ true → (a ≡ 0) × (b ≡ 0 → c ≡ 0)
-  leap-place e =
-      go (eqb a 0) (eqb (4 * b + a) 0) (eqb (100 * c + 4 * b + a) 0) refl refl refl (sym leap-by-place ∙ e)
-    where
-      go :
-          (fourth hundredth four-hundredth : Bool)
-          → eqb a 0 ≡ fourth
-          → eqb (4 * b + a) 0 ≡ hundredth
-          → eqb (100 * c + 4 * b + a) 0 ≡ four-hundredth
-          → fourth && (not hundredth || four-hundredth) ≡ true
-          → (a ≡ 0) × (b ≡ 0 → c ≡ 0)
-      go true false z u v w t = (eqb-true a 0 u, λ none. absurd (eqb-false (4 * b + a) 0 v (omega (arith, eqb-true))))
-      go true true true u v w t = (eqb-true a 0 u, λ none. omega (arith, eqb-true))
-      go true true false u v w t = absurd (false≢true t)
-      go false x z u v w t = absurd (false≢true t)
+  abbrev LeapPlace : Type 0
+  LeapPlace = (a ≡ 0) × (b ≡ 0 → c ≡ 0)
 
-  common-place : isLeapYear y ≡ false → a ≡ 0 → (b ≡ 0) × (0 < c)
-  common-place e =
-      go (eqb a 0) (eqb (4 * b + a) 0) (eqb (100 * c + 4 * b + a) 0) refl refl refl (sym leap-by-place ∙ e)
+  abbrev CommonPlace : Type 0
+  CommonPlace = a ≡ 0 → (b ≡ 0) × (0 < c)
+
+  either-place : ((isLeapYear y ≡ true) × LeapPlace) ⊎ ((isLeapYear y ≡ false) × CommonPlace)
+  either-place = go (eqb a 0) (eqb (4 * b + a) 0) (eqb (100 * c + 4 * b + a) 0) refl refl refl leap-by-place
     where
       go :
           (fourth hundredth four-hundredth : Bool)
           → eqb a 0 ≡ fourth
           → eqb (4 * b + a) 0 ≡ hundredth
           → eqb (100 * c + 4 * b + a) 0 ≡ four-hundredth
-          → fourth && (not hundredth || four-hundredth) ≡ false
-          → a ≡ 0
-          → (b ≡ 0) × (0 < c)
-      go true true false u v w t none = (omega (arith, eqb-true), omega (arith, eqb-true, eqb-false))
-      go true true true u v w t none = absurd (true≢false t)
-      go true false z u v w t none = absurd (true≢false t)
-      go false x z u v w t none = absurd (eqb-false a 0 u none)
+          → isLeapYear y ≡ fourth && (not hundredth || four-hundredth)
+          → ((isLeapYear y ≡ true) × LeapPlace) ⊎ ((isLeapYear y ≡ false) × CommonPlace)
+      go true false z u v w t = inl (t, (eqb-true a 0 u, λ none. absurd (eqb-false (4 * b + a) 0 v (omega (arith, eqb-true)))))
+      go true true true u v w t = inl (t, (eqb-true a 0 u, λ none. omega (arith, eqb-true)))
+      go true true false u v w t = inr (t, λ none. (omega (arith, eqb-true), omega (arith, eqb-true, eqb-false)))
+      go false x z u v w t = inr (t, λ none. absurd (eqb-false a 0 u none))
+
+  leap-place : isLeapYear y ≡ true → LeapPlace
+  leap-place e = ⊎-elim (λ p. p .1) (λ p. absurd (false≢true (sym (p .0) ∙ e))) either-place
+
+  common-place : isLeapYear y ≡ false → CommonPlace
+  common-place e = ⊎-elim (λ p. absurd (true≢false (sym (p .0) ∙ e))) (λ p. p .1) either-place
 
   -- a day of the year from 1 March on, and its place in 400 years that begin on one
   abbrev place : ℕ → ℕ
@@ -178,8 +173,8 @@ module _ (y q c b a : ℕ) (p : Places y q c b a) where
     four-hundredth : y / 400 ≡ q
     four-hundredth = omega (arith, p .year, p .years, p .fours, p .centuries)
 
-    since-march : sinceRound (yearDays k + leap y + 60 + j) ≡ place j
-    since-march =
+    march-place : cycleDay (yearDays k + leap y + 60 + j) ≡ place j
+    march-place =
         left-over (yearDays k + leap y + 60 + j + 145306) 146097 (q - 4) (place j)
         (whole (yearDays k + leap y) (y / 4) (y / 100) (y / 400) (q - 4) (omega arith) march quarter hundredth four-hundredth)
         (omega arith)
@@ -197,9 +192,9 @@ module _ (y q c b a : ℕ) (p : Places y q c b a) where
     abbrev day : ℕ
     day = yearDays k + leap y + 60 + j
 
-    by-place : yearBefore day ≡ inRound (place j)
+    by-place : yearBefore day ≡ byCycleDay (place j)
     unfolding yearBefore
-    by-place = ap inRound since-march
+    by-place = ap byCycleDay march-place
 
     -- in a leap year a leap day is behind each of the 365 days from 1 March on
     after-leap : isLeapYear y ≡ true → j < 365 → yearBefore day ≡ 366
@@ -208,7 +203,7 @@ module _ (y q c b a : ℕ) (p : Places y q c b a) where
         none : a ≡ 0
         none = leap-place e .0
 
-        go : (fours : ℕ) → b ≡ fours → inRound (place j) ≡ 366
+        go : (fours : ℕ) → b ≡ fours → byCycleDay (place j) ≡ 366
         go zero f = long-first (place j) (omega (arith, none, leap-place e .1 f))
         go (suc n) f =
             let century : place j % 36524 ≡ 1461 * b + j = left-over (place j) 36524 c (1461 * b + j) (omega (arith, none)) (omega (arith, p .fours)) in
@@ -219,13 +214,13 @@ module _ (y q c b a : ℕ) (p : Places y q c b a) where
     after-common : isLeapYear y ≡ false → yearBefore day ≡ 365
     after-common e = by-place ∙ go a refl
       where
-        go : (years : ℕ) → a ≡ years → inRound (place j) ≡ 365
+        go : (years : ℕ) → a ≡ years → byCycleDay (place j) ≡ 365
         go zero f =
             let century : place j % 36524 ≡ j = left-over (place j) 36524 c j (omega (arith, common-place e f .0)) (omega arith) in
             short-first (place j) (omega (arith, common-place e f .1)) (omega arith)
         go (suc n) f = rest (ltb (1461 * b + 365 * a + j) 36524) refl
           where
-            rest : (within : Bool) → ltb (1461 * b + 365 * a + j) 36524 ≡ within → inRound (place j) ≡ 365
+            rest : (within : Bool) → ltb (1461 * b + 365 * a + j) 36524 ≡ within → byCycleDay (place j) ≡ 365
             rest true w =
                 let century : place j % 36524 ≡ 1461 * b + (365 * a + j) =
                 left-over (place j) 36524 c (1461 * b + (365 * a + j)) (omega arith) (omega (arith, ltb-true)) in

@@ -8,7 +8,7 @@ use mathlib.Core.Logic.{_⊎_, inl, inr}
 use lib.Dec.{leb, eqb}
 use borrow.Author.Tests.{eqb-true, eqb-false, leb-true, leb-false, eq-eqb, ne-eqb}
 use Rattle.calendar.specs.Calendar.{Date, isLeapYear, monthLength, monthDays, yearDays, dateOf, dayOf, IsDate, isLeapDay, aYearOn, dayAYearOn}
-use Rattle.calendar.specs.Bounds.{isLong, yearBefore}
+use Rattle.calendar.specs.Bounds.{passedLeapDay, yearBefore}
 use Rattle.calendar.proofs.KnownDays.{date}
 use Rattle.calendar.proofs.DateLaws.{month-more, year-more, no-months, Numbered, dates-numbered}
 use Rattle.calendar.proofs.DateOrder.{months-rise}
@@ -160,7 +160,7 @@ module _ (x : Date) (d : IsDate x) where
 
 pub two-lengths : (n : ℕ) → (yearBefore n ≡ 365) ⊎ (yearBefore n ≡ 366)
 unfolding yearBefore
-two-lengths n = go (isLong n)
+two-lengths n = go (passedLeapDay n)
   where
     go : (b : Bool) → _≡_ {A = ℕ} (cond b 366 365) 365 ⊎ _≡_ {A = ℕ} (cond b 366 365) 366
     go true = inr refl

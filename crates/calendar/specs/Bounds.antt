@@ -9,16 +9,17 @@ use Rattle.calendar.specs.Calendar.{hasExpired}
 pub record ExpiryBound (today bound : ℕ) : Type 0 where
   pub before : (finishingDay : ℕ) → hasExpired today finishingDay ≡ ltb finishingDay bound
 
--- days since the last 1 March of a year that 400 divides: there are 146,097 of them from one to the next, and day 0 is the 145,306th since 1600
-abbrev pub sinceRound : ℕ → ℕ
-sinceRound day = (day + 145306) % 146097
+-- The calendar repeats after a cycle of 400 years, which has 146,097 days. How far into its cycle a day is, where cycles begin on 1 March of the years
+-- that 400 divides: day 0 is 145,306 days after 1 March 1600.
+abbrev pub cycleDay : ℕ → ℕ
+cycleDay day = (day + 145306) % 146097
 
--- whether a 29 February is among the 365 days before a day. From 1 March on, a leap day ends every four years of 1,461 days, but not those that end a
--- century of 36,524 days, unless they end four centuries.
-abbrev pub isLong : ℕ → Bool
-isLong day =
-    ltb (sinceRound day) 365 || (leb 1461 (sinceRound day % 36524) && ltb (sinceRound day % 36524 % 1461) 365)
+-- Whether a 29 February is among the 365 days before a day. From the start of a cycle on, a leap day ends every four years of 1,461 days, but not those that
+-- end a century of 36,524 days, unless they end the cycle.
+abbrev pub passedLeapDay : ℕ → Bool
+passedLeapDay day =
+    ltb (cycleDay day) 365 || (leb 1461 (cycleDay day % 36524) && ltb (cycleDay day % 36524 % 1461) 365)
 
 -- how many days before a day its date was a year before
 unfoldable pub yearBefore : ℕ → ℕ
-yearBefore day = cond (isLong day) 366 365
+yearBefore day = cond (passedLeapDay day) 366 365

@@ -2,8 +2,8 @@
 ghost use mathlib.Core.Path.{_≡_};
 ghost use Rattle.calendar.specs.Bounds.{ExpiryBound, yearBefore};
 
-// Days. Four years, a century and four centuries are counted from a 1 March on, so that a leap day ends them; a century is without it, and four
-// centuries have it again.
+// Days. The calendar repeats after a cycle of 400 years. Four years, a century and a cycle are counted from a 1 March on, so that a leap day ends
+// them; but a century has none at its end, unless it ends the cycle.
 const YEAR: u64 = 365;
 
 const LEAP_YEAR: u64 = 366;
@@ -12,20 +12,20 @@ const FOUR_YEARS: u64 = 1461;
 
 const CENTURY: u64 = 36_524;
 
-const FOUR_CENTURIES: u64 = 146_097;
+const CYCLE: u64 = 146_097;
 
-// From 1 March 1600, which begins four centuries, to day 0.
+// From 1 March 1600, when a cycle began, to day 0.
 const DAYS_BEFORE: u64 = 145_306;
 
 // How many days before a day its date was a year before: 366 where a 29 February is among the 365 days before it.
 fn year_before(day: u64) -> u64
     ensures { λ r. ⌜ r ≡ yearBefore day ⌝ }
 {
-    let since = (day % FOUR_CENTURIES + DAYS_BEFORE) % FOUR_CENTURIES;
-    if since < YEAR {
+    let in_cycle = (day % CYCLE + DAYS_BEFORE) % CYCLE;
+    if in_cycle < YEAR {
         return LEAP_YEAR;
     }
-    let in_century = since % CENTURY;
+    let in_century = in_cycle % CENTURY;
     if in_century < FOUR_YEARS {
         return YEAR;
     }

@@ -6,6 +6,7 @@ use mathlib.Core.Bool.{Bool, true, false}
 use lib.Dec.{ltb}
 use borrow.Author.Needs.{needs}
 use borrow.Author.Tests.{ltb-true, ltb-false, lt-ltb, le-ltb}
+use Rattle.calendar.specs.Bounds.{ExpiryBound, yearBefore}
 use Rattle.calendar.proofs.CalendarLaws.{expired-by-days}
 use Rattle.calendar.proofs.expiry.expiry_bound.Statement.{statement}
 use Rattle.calendar.proofs.expiry.expiry_bound.Tie as tie
@@ -24,29 +25,25 @@ moved today finished days h = go (ltb finished (today - days)) refl
 year-before-requires : tie.Need-year-before-requires
 year-before-requires c κs = search needs
 
+by-days :
+    (today days bound : ℕ)
+    → days ≡ yearBefore today
+    → ((finished : ℕ) → ltb (finished + days) today ≡ ltb finished bound)
+    → ExpiryBound today bound
+by-days today days bound e same =
+    record { before = λ finished. expired-by-days today finished ∙ ap (λ d. ltb (finished + d) today) (sym e) ∙ same finished }
+
 returns : tie.Need-returns
 returns c =
     let today = c .before .before .args .today in
     let days = c .before .year-before .result in
-    record {
-      before =
-          λ finished.
-          expired-by-days today finished
-          ∙ ap (λ d. ltb (finished + d) today) (sym (c .before .year-before .ensures))
-          ∙ young today finished days (c .if1 .taken);
-    }
+    by-days today days 0 (c .before .year-before .ensures) (λ finished. young today finished days (c .if1 .taken))
 
 returns-2 : tie.Need-returns-2
 returns-2 c =
     let today = c .before .before .args .today in
     let days = c .before .year-before .result in
-    record {
-      before =
-          λ finished.
-          expired-by-days today finished
-          ∙ ap (λ d. ltb (finished + d) today) (sym (c .before .year-before .ensures))
-          ∙ moved today finished days (c .if1 .left);
-    }
+    by-days today days (today - days) (c .before .year-before .ensures) (λ finished. moved today finished days (c .if1 .left))
 
 pub expiry-bound-spec : {M : Type 1} → statement M
 expiry-bound-spec = tie.close (tie.spec year-before-requires returns returns-2)
