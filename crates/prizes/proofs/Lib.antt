@@ -1,5 +1,6 @@
 pub mod HitLaws
 pub mod TableLaws
+pub mod KeptLaws
 pub mod PrizeLaws
 pub mod CutSigned
 pub mod CutRounds

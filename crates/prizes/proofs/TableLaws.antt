@@ -1,97 +1,40 @@
--- Laws of any table of prizes, whatever its size. The places that pay are computed from the table itself, so that one law covers every place that a
--- `match` naming those places leaves to its `_`; and a test computed over the whole table holds at each of its cells.
-use mathlib.Core.Path.{_≡_, refl, _∙_, sym, subst, ap, ap₂}
-use mathlib.Core.Bool.{Bool, true, false, cond, _&&_}
+-- Laws of any table of prizes, whatever its size: a test computed over the whole table holds at each of its entries.
+use mathlib.Core.Path.{_≡_, _∙_, sym, subst, ap}
+use mathlib.Core.Bool.{Bool, true, false, _&&_}
 use mathlib.Core.List.{List, [], _∷_}
-use Prim.Native.Nat.{ℕ, zero, suc, _+_}
-use native.Mathlib.Nat.{add-zero, zero-add, add-suc, suc-add}
-use lib.Dec.{T, eqb, eqb→eq}
-use lib.ListN.{getD, set}
+use Prim.Native.Nat.{ℕ, zero, suc, _+_, _<_}
+use native.Mathlib.Nat.{add-zero, add-suc, suc-add, le-of-suc-le-suc, not-suc-le-zero}
+use lib.Dec.{T}
+use lib.ListN.{length, getD, set}
 use lib.Seq.{getD-set-other}
 use Rattle.sale.specs.Lists.{every}
 use Rattle.prizes.specs.Schedules.{cell}
 
--- x is none of the keys: what the `_` of a `match` knows, whose arms name the keys, the last arm's first
-abbrev pub NoneOf : ℕ → List ℕ → Type 0
-NoneOf x [] = Unit
-NoneOf x (k ∷ ks) = NoneOf x ks × (x ≡ k → ⊥)
-
-both : (a b : Bool) → T (a && b) → T a × T b
+pub both : (a b : Bool) → T (a && b) → T a × T b
 both true b t = (tt, t)
 both false b t = absurd t
 
-older : (b : Bool) (x i : ℕ) (keys : List ℕ) → NoneOf x (cond b keys (i ∷ keys)) → NoneOf x keys
-older true x i keys n = n
-older false x i keys n = n .0
-
-passed : (b : Bool) (i : ℕ) (keys : List ℕ) → NoneOf (i + 0) (cond b keys (i ∷ keys)) → T b
-passed true i keys n = tt
-passed false i keys n = n .1 (add-zero i)
-
-module _ {A : Type 0} (blank : A → Bool) where
-  -- the places of the entries that are not blank, counted from i and put before the keys
-  abbrev pub marked : ℕ → List ℕ → List A → List ℕ
-  marked i keys [] = keys
-  marked i keys (y ∷ ys) = marked (suc i) (cond (blank y) keys (i ∷ keys)) ys
-
-  earlier : (x i : ℕ) (keys : List ℕ) (ys : List A) → NoneOf x (marked i keys ys) → NoneOf x keys
-  earlier x i keys [] n = n
-  earlier x i keys (y ∷ ys) n = older (blank y) x i keys (earlier x (suc i) (cond (blank y) keys (i ∷ keys)) ys n)
-
-  unmarked-from : (d : A) → T (blank d) → (ys : List A) (i : ℕ) (keys : List ℕ) (k : ℕ) → NoneOf (i + k) (marked i keys ys) → T (blank (getD ys k d))
-  unmarked-from d t [] i keys k n = t
-  unmarked-from d t (y ∷ ys) i keys zero n = passed (blank y) i keys (earlier (i + 0) (suc i) (cond (blank y) keys (i ∷ keys)) ys n)
-  unmarked-from d t (y ∷ ys) i keys (suc k) n =
-      unmarked-from d t ys (suc i) (cond (blank y) keys (i ∷ keys)) k
-      (subst (λ (m : ℕ). NoneOf m (marked i keys (y ∷ ys))) (add-suc i k ∙ sym (suc-add i k)) n)
-
-  -- a place that is none of those marked is blank
-  unmarked : (d : A) → T (blank d) → (ys : List A) (k : ℕ) → NoneOf k (marked 0 [] ys) → T (blank (getD ys k d))
-  unmarked d t ys k n = unmarked-from d t ys 0 [] k (subst (λ (m : ℕ). NoneOf m (marked 0 [] ys)) (sym (zero-add k)) n)
-
+module _ {A : Type 0} where
   -- a test that every entry passes, and what stands past the end too, is passed wherever one looks
-  every-at : (d : A) → T (blank d) → (ys : List A) → T (every blank ys) → (k : ℕ) → T (blank (getD ys k d))
+  every-at : (f : A → Bool) (d : A) → T (f d) → (ys : List A) → T (every f ys) → (k : ℕ) → T (f (getD ys k d))
   unfolding every
-  every-at d t [] e k = t
-  every-at d t (y ∷ ys) e zero = both (blank y) (every blank ys) e .0
-  every-at d t (y ∷ ys) e (suc k) = every-at d t ys (both (blank y) (every blank ys) e .1) k
+  every-at f d t [] e k = t
+  every-at f d t (y ∷ ys) e zero = both (f y) (every f ys) e .0
+  every-at f d t (y ∷ ys) e (suc k) = every-at f d t ys (both (f y) (every f ys) e .1) k
 
-abbrev pub isZero : ℕ → Bool
-isZero p = eqb p 0
+  -- every entry passes the test of its place, counted from i
+  abbrev pub everyFrom : (ℕ → A → Bool) → ℕ → List A → Bool
+  everyFrom f i [] = true
+  everyFrom f i (y ∷ ys) = f i y && everyFrom f (suc i) ys
 
--- the matches that pay in a row, the last first
-abbrev pub paying : List ℕ → List ℕ
-paying row = marked isZero 0 [] row
-
--- a row that pays for no match
-abbrev pub isEmpty : List ℕ → Bool
-isEmpty [] = true
-isEmpty (p ∷ ps) = false
-
--- the selections that have a row, the last first
-abbrev pub filled : List (List ℕ) → List ℕ
-filled rows = marked isEmpty 0 [] rows
-
-empty-row : (row : List ℕ) (m : ℕ) → T (isEmpty row) → 0 ≡ getD row m 0
-empty-row [] m t = refl
-empty-row (p ∷ ps) m t = absurd t
+  pub from-at : (f : ℕ → A → Bool) (d : A) (ys : List A) (i : ℕ) → T (everyFrom f i ys) → (k : ℕ) → k < length ys → T (f (i + k) (getD ys k d))
+  from-at f d [] i e k h = absurd (not-suc-le-zero h)
+  from-at f d (y ∷ ys) i e zero h = subst (λ (n : ℕ). T (f n y)) (sym (add-zero i)) (both (f i y) (everyFrom f (suc i) ys) e .0)
+  from-at f d (y ∷ ys) i e (suc k) h =
+      subst (λ (n : ℕ). T (f n (getD ys k d))) (suc-add i k ∙ sym (add-suc i k))
+      (from-at f d ys (suc i) (both (f i y) (everyFrom f (suc i) ys) e .1) k (le-of-suc-le-suc h))
 
 module _ (rows : List (List ℕ)) where
-  -- a selection and a match that are known
-  pub pays : {a b s m : ℕ} → s ≡ a → m ≡ b → cell rows a b ≡ cell rows s m
-  pays p q = sym (ap₂ (cell rows) p q)
-
-  -- a match that is none of those that its row pays
-  pub unpaid : {a s : ℕ} (m : ℕ) → s ≡ a → NoneOf m (paying (getD rows a [])) → 0 ≡ cell rows s m
-  unfolding cell
-  unpaid {a} m p n =
-      sym (eqb→eq _ 0 (unmarked isZero 0 tt (getD rows a []) m n)) ∙ pays p refl
-
-  -- a selection that has no row
-  pub no-row : (s m : ℕ) → NoneOf s (filled rows) → 0 ≡ cell rows s m
-  unfolding cell
-  no-row s m n = empty-row (getD rows s []) m (unmarked isEmpty [] tt rows s n)
-
   -- a test that every cell of the table passes, and 0 too, is passed by every selection and match
   pub every-cell : (f : ℕ → Bool) → T (f 0) → T (every (every f) rows) → (s m : ℕ) → T (f (cell rows s m))
   unfolding every cell

@@ -1,5 +1,6 @@
 pub mod Hits
 pub mod Schedules
+pub mod ScheduleTable
 pub mod Prize
 pub mod Cut
 pub mod Jackpots

@@ -8,3 +8,4 @@ pub mod jackpot;
 pub mod majors;
 pub mod prize;
 pub mod schedule;
+pub mod schedule_table;

@@ -13,6 +13,8 @@ use prizes::found::Found;
 use prizes::groups::group_table;
 use prizes::majors::cut_of;
 use prizes::majors::raise_of;
+use prizes::schedule_table::Table;
+use prizes::schedule_table::schedules;
 use sale::terms::Kind;
 use sale::terms::Terms;
 ghost use mathlib.Core.Path.{_≡_};
@@ -20,6 +22,7 @@ ghost use mathlib.Core.List.{List, []};
 ghost use Prim.Native.Nat.{ℕ};
 ghost use lib.ListN.{length};
 ghost use Rattle.prizes.specs.Found.{Counting, GroupsOf};
+ghost use Rattle.prizes.specs.ScheduleTable.{Schedules};
 ghost use Rattle.sale.specs.Bounds.{Grouping};
 ghost use Rattle.house.specs.Tickets.{termsOf};
 ghost use Rattle.house.specs.Balance.{Reached};
@@ -68,10 +71,11 @@ fn find_ticket(
     i: usize,
     game: u64,
     draw: Draw,
+    schedules: &Table,
     before: u64,
     majors: &mut [u64; 250],
 ) -> Found
-    requires { ⌜ SoldAt (now rows) (now marks) i × Counting before ⌝ }
+    requires { ⌜ SoldAt (now rows) (now marks) i × Schedules (now schedules) × Counting before ⌝ }
     ensures { λ r. ⌜ FoundAt game draw (ticketIn (now (rows .entry)) (now (marks .entry)) i) before (now (majors .entry)) r (now (majors .exit)) ⌝ }
 {
     let row = rows::read_row(rows, i);
@@ -84,7 +88,7 @@ fn find_ticket(
     }
     rows::known_marks(marks);
     let groups = ticket_groups(marks, i, row.sizes, draw);
-    found::ticket_prizes(row_terms(row), &groups, before, majors)
+    found::ticket_prizes(row_terms(row), &groups, schedules, before, majors)
 }
 
 // The pass: of each live ticket what is sure, its full matches, and the number of major prizes up to it, in a table each. All major prizes.
@@ -105,10 +109,11 @@ fn find_all(
     known_table(paid);
     known_table(full);
     known_table(ends);
+    let table = schedules();
     let mut count: u64 = 0;
     let mut i: usize = 0;
     while i < live {
-        let found = find_ticket(rows, marks, i, game, draw, count, majors);
+        let found = find_ticket(rows, marks, i, game, draw, &table, count, majors);
         paid[i] = found.sure;
         full[i] = found.full;
         ends[i] = found.majors;

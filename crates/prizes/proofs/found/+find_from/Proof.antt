@@ -25,7 +25,7 @@ use Rattle.sale.proofs.ways.ends_here.Reads as ends-here
 use Rattle.prizes.proofs.found.+find_from.{statement}
 use Rattle.prizes.proofs.found.+find_from.Tie.{close}
 
-abbrev μ : Measures 3 kinds.ps ℕ
+abbrev μ : Measures 4 kinds.ps ℕ
 μ κs a = a .0
 
 -- room for the ways is room for what is found of them
@@ -40,12 +40,12 @@ room-ways types left m table {found} r =
     subst (λ n. Room n found) (length-map (waysFrom types left m) (λ k. maskSum k (drop 1 table))) r
 
 module _ (t : ℕ) where
-  abbrev given : In 3 kinds.ps
-  given = and 3 kinds.ps (is 3 kinds.ps μ t) find-from.Pre
+  abbrev given : In 4 kinds.ps
+  given = and 4 kinds.ps (is 4 kinds.ps μ t) find-from.Pre
 
   abbrev called : lts.Claims
   called =
-      (find-mask.Asked, find-mask.Learnt, ends-here.Asked, ends-here.Learnt, and 3 kinds.ps (falls 3 kinds.ps _<_ μ t) find-from.Pre, find-from.Post)
+      (find-mask.Asked, find-mask.Learnt, ends-here.Asked, ends-here.Learnt, and 4 kinds.ps (falls 4 kinds.ps _<_ μ t) find-from.Pre, find-from.Post)
 
   -- where no group is left, the mask is the only way, or there is none
   own : (c : lts.Then1 called given find-from.Post)
@@ -71,7 +71,7 @@ module _ (t : ℕ) where
   both-room c =
       let a = c .before .args in
       subst (λ (l : List ℕ). Room (length l) (a .found .now)) (parts c)
-      (room-pairs (typesIn (a .table .now)) (a .left) (a .mask) (groupsIn (a .table .now)) (c .before .pre .1 .3))
+      (room-pairs (typesIn (a .table .now)) (a .left) (a .mask) (groupsIn (a .table .now)) (c .before .pre .1 .4))
 
   find-mask-requires : lts.Need-find-mask-requires called given find-from.Post
   find-mask-requires c κs =
@@ -79,8 +79,9 @@ module _ (t : ℕ) where
       let a = then .before .args in
       let pre = then .before .pre .1 in (
         place-end (then .if1 .taken) (pre .0),
+        pre .3,
         subst (λ (l : List ℕ). Room (length l) (a .found .now)) (own then)
-            (room-pairs (typesIn (a .table .now)) (a .left) (a .mask) (groupsIn (a .table .now)) (pre .3)),
+            (room-pairs (typesIn (a .table .now)) (a .left) (a .mask) (groupsIn (a .table .now)) (pre .4)),
       )
 
   returns : lts.Need-returns called given find-from.Post
@@ -120,6 +121,7 @@ module _ (t : ℕ) where
           place-without some (pre .1 .0),
           pre .1 .1,
           carries-without some (pre .1 .0 .groups) (pre .1 .2),
+          pre .1 .3,
           room-ways (typesIn (a .table .now)) (a .left - 1) (a .mask * 2) (groupsIn (a .table .now))
               (room-first (pairsFrom (typesIn (a .table .now)) (groupsIn (a .table .now)) (a .left - 1) (a .mask * 2)) (pairsFrom (typesIn (a .table .now)) (groupsIn (a .table .now)) (a .left - 1) (a .mask * 2 + 1)) (both-room else)),
         ),
@@ -165,6 +167,7 @@ module _ (t : ℕ) where
           pre .1 .1,
           subst (λ n. Carries (a .left - 1) (a .mask * 2 + 1) (a .pair + n) (groupsIn (a .table .now))) (getD-drop 3 (a .table .now) (a .left) 0)
               (carries-with some (pre .1 .0 .groups) (pre .1 .1) (pre .1 .2)),
+          pre .1 .3,
           room-ways (typesIn (a .table .now)) (a .left - 1) (a .mask * 2 + 1) (groupsIn (a .table .now))
               (room-second (kindIn (a .table .now)) (stakeIn (a .table .now)) (pairsFrom (typesIn (a .table .now)) (groupsIn (a .table .now)) (a .left - 1) (a .mask * 2)) (pairsFrom (typesIn (a .table .now)) (groupsIn (a .table .now)) (a .left - 1) (a .mask * 2 + 1)) (first .find-from .ensures) (both-room else)),
         ),

@@ -30,7 +30,7 @@ find-way-requires : tie.Need-find-way-requires
 find-way-requires c κs =
     let else = c .before .before .before .before .before in
     let start = else .before .before .before in
-    subst (λ t. Room (length (wayOrNone t (start .args .pair))) (start .args .found .now)) (a-way else) (start .pre .1)
+    (start .pre .1, subst (λ t. Room (length (wayOrNone t (start .args .pair))) (start .args .found .now)) (a-way else) (start .pre .2))
 
 returns-2 : tie.Need-returns-2
 returns-2 c =

@@ -38,7 +38,7 @@ add-requires c κs =
     let full = c .before .before .before in
     let start = full .before .before in
     let small = leb-false majorFloor (full .before .prize-of .result) (minor (c .before)) in
-    (omega (arith, start .pre .sure), omega (arith, start .pre .full, one full))
+    (omega (arith, start .pre .1 .sure), omega (arith, start .pre .1 .full, one full))
 
 returns : tie.Need-returns
 returns c =
@@ -53,13 +53,13 @@ add-requires-2 : tie.Need-add-requires-2
 add-requires-2 c κs =
     let full = c .before .before .before in
     let start = full .before .before in
-    (omega (arith, start .pre .sure), omega (arith, start .pre .full, one full))
+    (omega (arith, start .pre .1 .sure), omega (arith, start .pre .1 .full, one full))
 
 store-requires : tie.Need-store-requires
 store-requires c κs =
     let added = c .before .before in
     let start = added .before .before .before .before .before .before in
-    omega (arith, start .pre .majors, added .add2 .ensures (start .args .majors .now) .count)
+    omega (arith, start .pre .1 .majors, added .add2 .ensures (start .args .majors .now) .count)
 
 returns-2 : tie.Need-returns-2
 returns-2 c =

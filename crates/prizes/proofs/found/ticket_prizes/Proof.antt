@@ -22,17 +22,9 @@ find-from-requires c κs =
       start-place (start .pre .0 .groups),
       subst Groups (sym (walk .walk-table .ensures .groups)) (start .pre .1),
       start-carries (a .terms .groups) (groupsIn table),
-      start-room (a .terms .groups) (typesIn table) (a .before) (start .pre .0 .groups) (start .pre .2 .few),
+      start .pre .2,
+      start-room (a .terms .groups) (typesIn table) (a .before) (start .pre .0 .groups) (start .pre .3 .few),
     )
-
-array-read-t16 : tie.Need-array-read-t16
-array-read-t16 c = search needs
-
-array-read-t19 : tie.Need-array-read-t19
-array-read-t19 c = search needs
-
-array-read-t22 : tie.Need-array-read-t22
-array-read-t22 c = search needs
 
 returns : tie.Need-returns
 returns c =
@@ -50,7 +42,7 @@ ticket-prizes-spec =
     walk-table-requires
     cast-find-from
     find-from-requires
-    array-read-t16
-    array-read-t19
-    array-read-t22
+    (λ c. search needs)
+    (λ c. search needs)
+    (λ c. search needs)
     returns)

@@ -1,123 +1,31 @@
--- `standard` meets its contract: each arm pays its cell of the table, and each `_` stands for cells that are 0 or that the table lacks.
-use Rattle.prizes.specs.Schedules.{standardRows, cell}
-use Rattle.prizes.proofs.TableLaws.{pays, unpaid, no-row}
+-- `standard` meets its contract: the rows of rule 18.1 are the first of the table, and other selections have none.
+use native.Mathlib.Omega.{arith}
+use mathlib.Core.Path.{_≡_, _∙_}
+use Prim.Native.Nat.{_+_, _-_}
+use Rattle.prizes.proofs.KeptLaws.{standard-stands, below-pays, above-pays, kept-row, kept-pays}
 use Rattle.prizes.proofs.schedule.standard.Statement.{statement}
 use Rattle.prizes.proofs.schedule.standard.Tie as tie
 
+sub-row-prize : tie.Need-sub-row-prize
+sub-row-prize c = omega (arith, c .before .if1 .left)
+
+row-prize-requires : tie.Need-row-prize-requires
+row-prize-requires c κs =
+    let s = c .before .before .args .selection in
+    (kept-row standard-stands (s - 1) s (omega (arith, c .before .if1 .left)) (c .before .if1 .left) (c .if2 .taken), c .before .before .pre)
+
+returns : tie.Need-returns
+returns c =
+    let then = c .before in
+    let s = then .before .before .args .selection in
+    c .row-prize .ensures
+    ∙ kept-pays standard-stands (s - 1) s (omega (arith, then .before .if1 .left)) (then .before .if1 .left) (then .if2 .taken) (then .before .before .args .matched)
+
+returns-2 : tie.Need-returns-2
+returns-2 c = below-pays standard-stands (c .before .args .matched) (c .before .args .selection) (c .if1 .taken)
+
+returns-3 : tie.Need-returns-3
+returns-3 c = above-pays standard-stands (c .before .before .args .matched) (c .before .before .args .selection) (c .if2 .left)
+
 pub standard-spec : {M : Type 1} → statement M
-unfolding standardRows cell
-standard-spec =
-    tie.close
-    (tie.spec
-    (λ c. pays standardRows (c .before .match .keys1) (c .match2 .keys1))
-    (λ c. unpaid standardRows (c .before .before .args .matched) (c .before .match .keys1) (c .match2 .rest))
-    (λ c. pays standardRows (c .before .match .keys2) (c .match3 .keys1))
-    (λ c. unpaid standardRows (c .before .before .args .matched) (c .before .match .keys2) (c .match3 .rest))
-    (λ c. pays standardRows (c .before .match .keys3) (c .match4 .keys1))
-    (λ c. pays standardRows (c .before .match .keys3) (c .match4 .keys2))
-    (λ c. unpaid standardRows (c .before .before .args .matched) (c .before .match .keys3) (c .match4 .rest))
-    (λ c. pays standardRows (c .before .match .keys4) (c .match5 .keys1))
-    (λ c. pays standardRows (c .before .match .keys4) (c .match5 .keys2))
-    (λ c. pays standardRows (c .before .match .keys4) (c .match5 .keys3))
-    (λ c. unpaid standardRows (c .before .before .args .matched) (c .before .match .keys4) (c .match5 .rest))
-    (λ c. pays standardRows (c .before .match .keys5) (c .match6 .keys1))
-    (λ c. pays standardRows (c .before .match .keys5) (c .match6 .keys2))
-    (λ c. pays standardRows (c .before .match .keys5) (c .match6 .keys3))
-    (λ c. pays standardRows (c .before .match .keys5) (c .match6 .keys4))
-    (λ c. unpaid standardRows (c .before .before .args .matched) (c .before .match .keys5) (c .match6 .rest))
-    (λ c. pays standardRows (c .before .match .keys6) (c .match7 .keys1))
-    (λ c. pays standardRows (c .before .match .keys6) (c .match7 .keys2))
-    (λ c. pays standardRows (c .before .match .keys6) (c .match7 .keys3))
-    (λ c. pays standardRows (c .before .match .keys6) (c .match7 .keys4))
-    (λ c. unpaid standardRows (c .before .before .args .matched) (c .before .match .keys6) (c .match7 .rest))
-    (λ c. pays standardRows (c .before .match .keys7) (c .match8 .keys1))
-    (λ c. pays standardRows (c .before .match .keys7) (c .match8 .keys2))
-    (λ c. pays standardRows (c .before .match .keys7) (c .match8 .keys3))
-    (λ c. pays standardRows (c .before .match .keys7) (c .match8 .keys4))
-    (λ c. pays standardRows (c .before .match .keys7) (c .match8 .keys5))
-    (λ c. pays standardRows (c .before .match .keys7) (c .match8 .keys6))
-    (λ c. unpaid standardRows (c .before .before .args .matched) (c .before .match .keys7) (c .match8 .rest))
-    (λ c. pays standardRows (c .before .match .keys8) (c .match9 .keys1))
-    (λ c. pays standardRows (c .before .match .keys8) (c .match9 .keys2))
-    (λ c. pays standardRows (c .before .match .keys8) (c .match9 .keys3))
-    (λ c. pays standardRows (c .before .match .keys8) (c .match9 .keys4))
-    (λ c. pays standardRows (c .before .match .keys8) (c .match9 .keys5))
-    (λ c. pays standardRows (c .before .match .keys8) (c .match9 .keys6))
-    (λ c. unpaid standardRows (c .before .before .args .matched) (c .before .match .keys8) (c .match9 .rest))
-    (λ c. pays standardRows (c .before .match .keys9) (c .match10 .keys1))
-    (λ c. pays standardRows (c .before .match .keys9) (c .match10 .keys2))
-    (λ c. pays standardRows (c .before .match .keys9) (c .match10 .keys3))
-    (λ c. pays standardRows (c .before .match .keys9) (c .match10 .keys4))
-    (λ c. pays standardRows (c .before .match .keys9) (c .match10 .keys5))
-    (λ c. pays standardRows (c .before .match .keys9) (c .match10 .keys6))
-    (λ c. pays standardRows (c .before .match .keys9) (c .match10 .keys7))
-    (λ c. unpaid standardRows (c .before .before .args .matched) (c .before .match .keys9) (c .match10 .rest))
-    (λ c. pays standardRows (c .before .match .keys10) (c .match11 .keys1))
-    (λ c. pays standardRows (c .before .match .keys10) (c .match11 .keys2))
-    (λ c. pays standardRows (c .before .match .keys10) (c .match11 .keys3))
-    (λ c. pays standardRows (c .before .match .keys10) (c .match11 .keys4))
-    (λ c. pays standardRows (c .before .match .keys10) (c .match11 .keys5))
-    (λ c. pays standardRows (c .before .match .keys10) (c .match11 .keys6))
-    (λ c. pays standardRows (c .before .match .keys10) (c .match11 .keys7))
-    (λ c. pays standardRows (c .before .match .keys10) (c .match11 .keys8))
-    (λ c. unpaid standardRows (c .before .before .args .matched) (c .before .match .keys10) (c .match11 .rest))
-    (λ c. pays standardRows (c .before .match .keys11) (c .match12 .keys1))
-    (λ c. pays standardRows (c .before .match .keys11) (c .match12 .keys2))
-    (λ c. pays standardRows (c .before .match .keys11) (c .match12 .keys3))
-    (λ c. pays standardRows (c .before .match .keys11) (c .match12 .keys4))
-    (λ c. pays standardRows (c .before .match .keys11) (c .match12 .keys5))
-    (λ c. pays standardRows (c .before .match .keys11) (c .match12 .keys6))
-    (λ c. pays standardRows (c .before .match .keys11) (c .match12 .keys7))
-    (λ c. pays standardRows (c .before .match .keys11) (c .match12 .keys8))
-    (λ c. pays standardRows (c .before .match .keys11) (c .match12 .keys9))
-    (λ c. unpaid standardRows (c .before .before .args .matched) (c .before .match .keys11) (c .match12 .rest))
-    (λ c. pays standardRows (c .before .match .keys12) (c .match13 .keys1))
-    (λ c. pays standardRows (c .before .match .keys12) (c .match13 .keys2))
-    (λ c. pays standardRows (c .before .match .keys12) (c .match13 .keys3))
-    (λ c. pays standardRows (c .before .match .keys12) (c .match13 .keys4))
-    (λ c. pays standardRows (c .before .match .keys12) (c .match13 .keys5))
-    (λ c. pays standardRows (c .before .match .keys12) (c .match13 .keys6))
-    (λ c. pays standardRows (c .before .match .keys12) (c .match13 .keys7))
-    (λ c. pays standardRows (c .before .match .keys12) (c .match13 .keys8))
-    (λ c. pays standardRows (c .before .match .keys12) (c .match13 .keys9))
-    (λ c. pays standardRows (c .before .match .keys12) (c .match13 .keys10))
-    (λ c. unpaid standardRows (c .before .before .args .matched) (c .before .match .keys12) (c .match13 .rest))
-    (λ c. pays standardRows (c .before .match .keys13) (c .match14 .keys1))
-    (λ c. pays standardRows (c .before .match .keys13) (c .match14 .keys2))
-    (λ c. pays standardRows (c .before .match .keys13) (c .match14 .keys3))
-    (λ c. pays standardRows (c .before .match .keys13) (c .match14 .keys4))
-    (λ c. pays standardRows (c .before .match .keys13) (c .match14 .keys5))
-    (λ c. pays standardRows (c .before .match .keys13) (c .match14 .keys6))
-    (λ c. pays standardRows (c .before .match .keys13) (c .match14 .keys7))
-    (λ c. pays standardRows (c .before .match .keys13) (c .match14 .keys8))
-    (λ c. pays standardRows (c .before .match .keys13) (c .match14 .keys9))
-    (λ c. pays standardRows (c .before .match .keys13) (c .match14 .keys10))
-    (λ c. pays standardRows (c .before .match .keys13) (c .match14 .keys11))
-    (λ c. unpaid standardRows (c .before .before .args .matched) (c .before .match .keys13) (c .match14 .rest))
-    (λ c. pays standardRows (c .before .match .keys14) (c .match15 .keys1))
-    (λ c. pays standardRows (c .before .match .keys14) (c .match15 .keys2))
-    (λ c. pays standardRows (c .before .match .keys14) (c .match15 .keys3))
-    (λ c. pays standardRows (c .before .match .keys14) (c .match15 .keys4))
-    (λ c. pays standardRows (c .before .match .keys14) (c .match15 .keys5))
-    (λ c. pays standardRows (c .before .match .keys14) (c .match15 .keys6))
-    (λ c. pays standardRows (c .before .match .keys14) (c .match15 .keys7))
-    (λ c. pays standardRows (c .before .match .keys14) (c .match15 .keys8))
-    (λ c. pays standardRows (c .before .match .keys14) (c .match15 .keys9))
-    (λ c. pays standardRows (c .before .match .keys14) (c .match15 .keys10))
-    (λ c. pays standardRows (c .before .match .keys14) (c .match15 .keys11))
-    (λ c. pays standardRows (c .before .match .keys14) (c .match15 .keys12))
-    (λ c. unpaid standardRows (c .before .before .args .matched) (c .before .match .keys14) (c .match15 .rest))
-    (λ c. pays standardRows (c .before .match .keys15) (c .match16 .keys1))
-    (λ c. pays standardRows (c .before .match .keys15) (c .match16 .keys2))
-    (λ c. pays standardRows (c .before .match .keys15) (c .match16 .keys3))
-    (λ c. pays standardRows (c .before .match .keys15) (c .match16 .keys4))
-    (λ c. pays standardRows (c .before .match .keys15) (c .match16 .keys5))
-    (λ c. pays standardRows (c .before .match .keys15) (c .match16 .keys6))
-    (λ c. pays standardRows (c .before .match .keys15) (c .match16 .keys7))
-    (λ c. pays standardRows (c .before .match .keys15) (c .match16 .keys8))
-    (λ c. pays standardRows (c .before .match .keys15) (c .match16 .keys9))
-    (λ c. pays standardRows (c .before .match .keys15) (c .match16 .keys10))
-    (λ c. pays standardRows (c .before .match .keys15) (c .match16 .keys11))
-    (λ c. pays standardRows (c .before .match .keys15) (c .match16 .keys12))
-    (λ c. unpaid standardRows (c .before .before .args .matched) (c .before .match .keys15) (c .match16 .rest))
-    (λ c. no-row standardRows (c .before .args .selection) (c .before .args .matched) (c .match .rest)))
+standard-spec = tie.close (tie.spec sub-row-prize row-prize-requires returns returns-2 returns-3)

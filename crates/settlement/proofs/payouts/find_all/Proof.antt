@@ -7,14 +7,14 @@ use Rattle.settlement.proofs.payouts.find_all.Statement.{statement}
 use Rattle.settlement.proofs.payouts.find_all.Tie as tie
 
 abbrev Inv-loop : tie.InvT-loop
-Inv-loop rows marks live game draw paid₀ full₀ ends₀ majors₀ count₀ i₀ paid full ends majors count i =
+Inv-loop rows marks live game draw paid₀ full₀ ends₀ majors₀ table count₀ i₀ paid full ends majors count i =
     Finding rows marks game draw live majors₀ i paid full ends majors count
 
 abbrev μ-loop : tie.MeasureT-loop
-μ-loop rows marks live game draw paid₀ full₀ ends₀ majors₀ count₀ i₀ paid full ends majors count i = live - i
+μ-loop rows marks live game draw paid₀ full₀ ends₀ majors₀ table count₀ i₀ paid full ends majors count i = live - i
 
 abbrev startOf : tie.At-loop Inv-loop μ-loop → tie.Start Inv-loop μ-loop
-startOf c = c .before .before .before .before .before .before .before
+startOf c = c .before .before .before .before .before .before .before .before
 
 known-table-requires : tie.Need-known-table-requires Inv-loop μ-loop
 known-table-requires c κs = search needs
@@ -25,18 +25,23 @@ known-table-requires-2 c κs = search needs
 known-table-requires-3 : tie.Need-known-table-requires-3 Inv-loop μ-loop
 known-table-requires-3 c κs = search needs
 
+schedules-requires : tie.Need-schedules-requires Inv-loop μ-loop
+schedules-requires c κs = search needs
+
 loop-holds : tie.Need-loop-holds Inv-loop μ-loop
 loop-holds c =
-    let args = c .before .before .before .before .before .before .args in
+    let known = c .before in
+    let args = known .before .before .before .before .before .before .args in
     finding-none (args .rows .now) (args .marks .now) (args .game) (args .draw) (args .live) (args .majors .now)
-    (c .before .before .before .before .known-table .ensures) (c .before .before .known-table2 .ensures) (c .known-table3 .ensures)
+    (known .before .before .before .before .known-table .ensures) (known .before .before .known-table2 .ensures) (known .known-table3 .ensures)
 
 find-ticket-requires : tie.Need-find-ticket-requires Inv-loop μ-loop
 find-ticket-requires c κs =
-    let test = c .before in
+    let test = c .before .before in
     let turn = test .before .loop in
     let start = startOf (test .before) in (
       record { place = omega (arith, start .pre .few); sold = start .pre .each (turn .i) (test .loop-test .taken) },
+      test .before .before .schedules .ensures,
       record { few = omega (arith, turn .inv .few, start .pre .few) },
     )
 
@@ -66,7 +71,7 @@ loop-less c = search needs
 
 loop-again : tie.Need-loop-again Inv-loop μ-loop
 loop-again c =
-    let test = c .before .before in
+    let test = c .before .before .before in
     let turn = test .before .loop in
     let start = startOf (test .before) in
     let args = start .args in
@@ -87,6 +92,7 @@ find-all-spec =
     known-table-requires
     known-table-requires-2
     known-table-requires-3
+    schedules-requires
     loop-holds
     find-ticket-requires
     mul-paid

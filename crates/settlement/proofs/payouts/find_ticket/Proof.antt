@@ -61,6 +61,7 @@ ticket-prizes-requires c κs =
       subst Sound (sym (terms .row-terms .ensures)) (terms-sound (ticketFrom (read .read-row .result) own .operands) (row-sold read .playable)),
       groups .ticket-groups .ensures .groups,
       read .before .pre .1,
+      read .before .pre .2,
     )
 
 returns-2 : tie.Need-returns-2
@@ -72,7 +73,7 @@ returns-2 c =
     let args = read .before .args in
     let row = read .read-row .result in
     let own = marksAt (args .marks .now) (args .i) in
-    subst (λ (w : Row). FoundAt (args .game) (args .draw) (ticketFrom w own) (args .before) (args .majors .now) (c .ticket-prizes .result) (c .ticket-prizes .last .1 .1 .1 .0))
+    subst (λ (w : Row). FoundAt (args .game) (args .draw) (ticketFrom w own) (args .before) (args .majors .now) (c .ticket-prizes .result) (c .ticket-prizes .last .1 .1 .1 .1 .0))
     (read .read-row .ensures)
     (ticket-runs row own (args .game) (args .draw) (args .before) (args .majors .now) (sym (runs .before .runs-in .ensures own) ∙ not-false _ (runs .if1 .left))
     (row-sold read) (terms .row-terms .ensures) (groups .ticket-groups .ensures) (c .ticket-prizes .ensures))
