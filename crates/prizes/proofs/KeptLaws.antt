@@ -118,11 +118,12 @@ module _ {row selection : ℕ} (matched : ℕ) (r : RowOf row selection) where
           let paid : ltb matched (runIn word) ≡ false = le-ltb matched (runIn word) (omega arith) in
           cell-at (start + low + (matched - run)) (omega (arith, t .shaped row (r .few) .0)) (rw paid (and-false (leb (lowIn word) matched))) h
 
--- ---- a schedule whose n selections from the least on have their rows among those kept, from a place on
+-- ---- a schedule that has rows for n selections, from the least on, which stand among those kept from a place on
 
 abbrev ofSize : ℕ → List ℕ → Bool
 ofSize selection row = eqb (length row) (suc selection)
 
+-- no row below the least, none above the last, the same rows in both, each with a prize more than it has numbers
 pub record Stands (rows : List (List ℕ)) (least n at : ℕ) : Type 0 where
   none : take least rows ≡ replicate least []
   long : length rows ≡ least + n

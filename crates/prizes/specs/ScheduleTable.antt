@@ -8,7 +8,7 @@ use lib.Dec.{leb, ltb}
 use lib.ListN.{length, drop, getD}
 use Rattle.prizes.specs.Schedules.{standardRows, specialOneRows, specialTwoRows}
 
--- the rows that the table keeps, in its order: a word for each selection that a schedule has, where rule 18.2's other selections are rule 18.1's
+-- the rows that the table keeps, in its order: one for each selection that a schedule has. Rule 18.2's other selections are rule 18.1's.
 unfoldable pub keptRows : List (List ℕ)
 unfolding standardRows specialOneRows specialTwoRows
 keptRows = drop 1 standardRows ++ getD specialOneRows 6 [] ∷ getD specialOneRows 8 [] ∷ drop 3 specialTwoRows
@@ -17,12 +17,12 @@ keptRows = drop 1 standardRows ++ getD specialOneRows 6 [] ∷ getD specialOneRo
 unfoldable pub keptPrize : ℕ → ℕ → ℕ
 keptPrize row matched = getD (getD keptRows row []) matched 0
 
--- one of them, which is of a selection of so many numbers
+-- one of them, of a selection of so many numbers
 pub record RowOf (row selection : ℕ) : Type 0 where
   pub few : row < 21
   pub long : length (getD keptRows row []) ≡ suc selection
 
--- ---- a word: the place of the first cell, the match with which the run begins, and how many low matches pay
+-- ---- a row's word: the place of its first cell, the match with which its run begins, and how many low matches pay
 
 abbrev pub startIn : ℕ → ℕ
 startIn word = word / 256
@@ -45,7 +45,7 @@ placeIn word matched = startIn word + min matched (lowIn word) + (matched - runI
 abbrev pub foundIn : List ℕ → ℕ → ℕ → ℕ
 foundIn table word matched = cond (isUnpaid word matched) 0 (getD table (placeIn word matched) 0)
 
--- a table in which every prize of the three schedules is found
+-- It is the table of the three schedules: every prize of theirs is found in it. A row's run begins within the row, and not before its low matches end.
 pub record Schedules (table : List ℕ) : Type 0 where
   pub long : length table ≡ 132
   pub shaped : (row : ℕ) → row < 21 → (lowIn (getD table row 0) ≤ runIn (getD table row 0)) × (runIn (getD table row 0) < length (getD keptRows row []))

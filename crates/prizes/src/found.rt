@@ -1,6 +1,7 @@
 // What a ticket's ways win in a drawn game: one pass over them, for every ticket of the game. All its calls are lent what they read and
-// the tables that they add their figures in, and carry in one word the numbers that a way selects and those of them that are drawn: so their six
-// parameters are words, and the second call of each is a jump. It leaves a group before it takes it, so that the ways come in their order.
+// the tables that they add their figures in, and carry in one word the numbers that a way selects and those of them that are drawn: so their seven
+// parameters are words, and the second call of each is a jump. Six go in registers: the last is the table that few ways reach, the major prizes.
+// It leaves a group before it takes it, so that the ways come in their order.
 use crate::figures;
 use crate::prize;
 use crate::schedule_table::Table;
