@@ -1,7 +1,7 @@
 -- `standard` meets its contract: the rows of rule 18.1 are the first of the table, and other selections have none.
+use mathlib.Core.Path.{_∙_}
+use Prim.Native.Nat.{_-_}
 use native.Mathlib.Omega.{arith}
-use mathlib.Core.Path.{_≡_, _∙_}
-use Prim.Native.Nat.{_+_, _-_}
 use Rattle.prizes.proofs.KeptLaws.{standard-stands, below-pays, above-pays, kept-row, kept-pays}
 use Rattle.prizes.proofs.schedule.standard.Statement.{statement}
 use Rattle.prizes.proofs.schedule.standard.Tie as tie
