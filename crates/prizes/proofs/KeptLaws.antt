@@ -1,181 +1,104 @@
--- The table of the schedules: a test that is computed over all of it says that it is right at each row and match; and where a schedule's rows stand
--- one after the other among those kept, the prize by the row kept is the prize of the schedule.
+-- The table of the schedules keeps every row of theirs: a test that is computed for every selection and every match below 16 says so there, and from 16 on
+-- neither the table nor a schedule pays.
 use mathlib.Core.Path.{_≡_, refl, sym, ap, _∙_, subst}
-use mathlib.Core.Bool.{Bool, true, false, cond, _&&_, and-false}
+use mathlib.Core.Bool.{Bool, true, false, _&&_}
 use mathlib.Core.List.{List, []}
 use Prim.Native.Nat.{ℕ, suc, _+_, _-_, _≤_, _<_}
-use native.Mathlib.Nat.{zero-add}
 use native.Mathlib.Omega.{arith}
 use lib.Dec.{T, eqb, leb, ltb, eqb→eq, leb→le, ltb→lt}
-use borrow.Author.Tests.{lt-ltb, le-ltb, le-leb, lt-leb}
-use lib.ListN.{length, getD, take, drop, replicate, getD-replicate, length-drop, List·getD-eq-default}
-use lib.Seq.{getD-take, getD-drop}
+use lib.ListN.{length, getD, take, replicate, getD-replicate, List·getD-eq-default}
+use lib.Seq.{getD-take}
+use borrow.Author.Tests.{ltb-true, ltb-false, lt-ltb, le-ltb}
 use Rattle.prizes.specs.Schedules.{standardRows, specialOneRows, specialTwoRows, cell}
-use Rattle.prizes.specs.ScheduleTable.{keptRows, keptPrize, RowOf, startIn, runIn, lowIn, isUnpaid, placeIn, foundIn, Schedules}
-use Rattle.prizes.proofs.TableLaws.{both, everyFrom, from-at}
+use Rattle.prizes.specs.ScheduleTable.{startIn, runIn, lowIn, prizeBy, WordAt, Keeps, Schedules}
+use Rattle.prizes.proofs.TableLaws.{both, allBelow, below-at}
 
--- ---- the whole table
+module _ (rows : List (List ℕ)) (s m : ℕ) where
+  -- a match past the end of its row
+  pays-none : length (getD rows s []) ≤ m → 0 ≡ cell rows s m
+  unfolding cell
+  pays-none h = sym (List·getD-eq-default (getD rows s []) 0 h)
 
+  -- a selection before the first that has a row, or past the last
+  pub no-row-below : (n : ℕ) → take n rows ≡ replicate n [] → s < n → 0 ≡ cell rows s m
+  unfolding cell
+  no-row-below n e h = ap (λ row. getD row m 0) (sym (sym (getD-take n rows s [] h) ∙ ap (λ l. getD l s []) e ∙ getD-replicate n s [] [] h))
+
+  pub no-row-above : length rows ≤ s → 0 ≡ cell rows s m
+  unfolding cell
+  no-row-above h = ap (λ row. getD row m 0) (sym (List·getD-eq-default rows [] h))
+
+module _ (table : List ℕ) (place s : ℕ) (rows : List (List ℕ)) where
+  abbrev word : ℕ
+  word = getD table place 0
+
+  abbrev isWord : Bool
+  isWord = ltb place 132 && ltb (startIn word + lowIn word + (s - runIn word)) 132
+
+  -- neither the selection nor its row goes beyond 15 matches
+  abbrev isShort : Bool
+  isShort = ltb s 16 && leb (length (getD rows s [])) 16
+
+  abbrev isPrize : ℕ → Bool
+  isPrize m = eqb (prizeBy table word s m) (cell rows s m)
+
+  abbrev isKept : Bool
+  isKept = (isWord && isShort) && allBelow 16 isPrize
+
+  module _ (t : T isKept) where
+    right : T (isWord && isShort) × T (allBelow 16 isPrize)
+    right = both (isWord && isShort) (allBelow 16 isPrize) t
+
+    in-table : T (ltb place 132) × T (ltb (startIn word + lowIn word + (s - runIn word)) 132)
+    in-table = both (ltb place 132) (ltb (startIn word + lowIn word + (s - runIn word)) 132) (both isWord isShort (right .0) .0)
+
+    short : T (ltb s 16) × T (leb (length (getD rows s [])) 16)
+    short = both (ltb s 16) (leb (length (getD rows s [])) 16) (both isWord isShort (right .0) .1)
+
+    far : (m : ℕ) → 16 ≤ m → prizeBy table word s m ≡ cell rows s m
+    far m h =
+        let row = leb→le (length (getD rows s [])) 16 (short .1) in
+        rw (le-ltb m (runIn word) (omega arith), lt-ltb s m (omega (arith, ltb→lt s 16 (short .0)))) (pays-none rows s m (omega arith))
+
+    near : (m : ℕ) → m < 16 → prizeBy table word s m ≡ cell rows s m
+    near m h = eqb→eq (prizeBy table word s m) (cell rows s m) (below-at 16 isPrize (right .1) m h)
+
+    kept : Keeps table place s rows
+    kept =
+        record {
+          word = record { few = ltb→lt place 132 (in-table .0); inside = ltb→lt _ 132 (in-table .1) };
+          prizes = λ m. either m (ltb m 16) refl;
+        }
+      where
+        either : (m : ℕ) (b : Bool) → ltb m 16 ≡ b → prizeBy table word s m ≡ cell rows s m
+        either m true e = near m (ltb-true m 16 e)
+        either m false e = far m (ltb-false m 16 e)
+
+-- all rows of the three schedules
 module _ (table : List ℕ) where
-  abbrev wordAt : ℕ → ℕ
-  wordAt row = getD table row 0
+  abbrev standardKept : ℕ → Bool
+  standardKept k = isKept table k (suc k) standardRows
 
-  -- the low matches end where the run begins or before, and the run begins in the row
-  abbrev isOrdered : ℕ → Bool
-  isOrdered row = leb (lowIn (wordAt row)) (runIn (wordAt row))
+  abbrev specialOneKept : Bool
+  specialOneKept = isKept table 15 6 specialOneRows && isKept table 16 8 specialOneRows
 
-  abbrev beginsIn : ℕ → List ℕ → Bool
-  beginsIn row cells = ltb (runIn (wordAt row)) (length cells)
+  abbrev specialTwoKept : ℕ → Bool
+  specialTwoKept k = isKept table (17 + k) (3 + k) specialTwoRows
 
-  -- the cell for a match of a row stands in the table, and the prize is found
-  abbrev isInside : ℕ → ℕ → Bool
-  isInside row matched = ltb (placeIn (wordAt row) matched) (length table)
+  abbrev pub allKept : Bool
+  allKept = (allBelow 15 standardKept && specialOneKept) && allBelow 4 specialTwoKept
 
-  abbrev isFound : ℕ → ℕ → ℕ → Bool
-  isFound row matched prize = eqb (foundIn table (wordAt row) matched) prize
-
-  abbrev rightCells : ℕ → List ℕ → Bool
-  rightCells row = everyFrom (λ matched prize. isInside row matched && isFound row matched prize) 0
-
-  abbrev rightRow : ℕ → List ℕ → Bool
-  rightRow row cells = (isOrdered row && beginsIn row cells) && rightCells row cells
-
-  abbrev pub allRight : Bool
-  allRight = everyFrom rightRow 0 keptRows
-
-  module _ (t : T allRight) (row : ℕ) (few : row < 21) where
-    abbrev cellsOf : List ℕ
-    cellsOf = getD keptRows row []
-
-    right-row : T (isOrdered row && beginsIn row cellsOf) × T (rightCells row cellsOf)
-    unfolding keptRows
-    right-row =
-        both (isOrdered row && beginsIn row cellsOf) (rightCells row cellsOf)
-        (subst (λ n. T (rightRow n cellsOf)) (zero-add row) (from-at rightRow [] keptRows 0 t row few))
-
-    right-shape : T (isOrdered row) × T (beginsIn row cellsOf)
-    right-shape = both (isOrdered row) (beginsIn row cellsOf) (right-row .0)
-
-    right-cell : (matched : ℕ) → matched < length cellsOf → T (isInside row matched) × T (isFound row matched (keptPrize row matched))
-    unfolding keptPrize
-    right-cell matched inside =
-        both (isInside row matched) (isFound row matched (keptPrize row matched))
-        (subst (λ n. T (isInside row n && isFound row n (keptPrize row matched))) (zero-add matched)
-        (from-at (λ n p. isInside row n && isFound row n p) 0 cellsOf 0 (right-row .1) matched inside))
-
-  pub all-right : length table ≡ 132 → T allRight → Schedules table
-  all-right long t =
+  pub all-kept : T allKept → Schedules table
+  all-kept t =
+      let first = both (allBelow 15 standardKept && specialOneKept) (allBelow 4 specialTwoKept) t in
+      let standard = both (allBelow 15 standardKept) specialOneKept (first .0) in
+      let one = both (isKept table 15 6 specialOneRows) (isKept table 16 8 specialOneRows) (standard .1) in
       record {
-        long = long;
-        shaped = λ row few. (leb→le _ _ (right-shape t row few .0), ltb→lt _ _ (right-shape t row few .1));
-        inside = λ row matched few inside. ltb→lt _ _ (right-cell t row few matched inside .0);
-        prizes = λ row matched few inside. eqb→eq _ _ (right-cell t row few matched inside .1);
+        standard = λ s h k. subst (λ n. Keeps table (s - 1) n standardRows) (omega arith) (kept table (s - 1) (suc (s - 1)) standardRows (below-at 15 standardKept (standard .0) (s - 1) (omega arith)));
+        six = kept table 15 6 specialOneRows (one .0);
+        eight = kept table 16 8 specialOneRows (one .1);
+        special-two = λ s h k.
+            subst (λ n. Keeps table n s specialTwoRows) (omega arith)
+            (subst (λ n. Keeps table (17 + (s - 3)) n specialTwoRows) (omega arith)
+            (kept table (17 + (s - 3)) (3 + (s - 3)) specialTwoRows (below-at 4 specialTwoKept (first .1) (s - 3) (omega arith))));
       }
-
--- ---- a row of it, found by its word
-
--- a place of the table where the prize for a match of a row stands
-pub record CellAt (table : List ℕ) (row matched place : ℕ) : Type 0 where
-  pub inside : place < 132
-  pub prize : getD table place 0 ≡ keptPrize row matched
-
-module _ {row selection : ℕ} (matched : ℕ) (r : RowOf row selection) where
-  -- above all its numbers
-  pub no-match : selection < matched → 0 ≡ keptPrize row matched
-  unfolding keptPrize
-  no-match h = sym (List·getD-eq-default (getD keptRows row []) 0 (omega (arith, r .long)))
-
-  module _ {table : List ℕ} (t : Schedules table) where
-    abbrev word : ℕ
-    word = getD table row 0
-
-    cell-at : (place : ℕ) → place ≡ placeIn word matched → isUnpaid word matched ≡ false → matched ≤ selection → CellAt table row matched place
-    cell-at place e paid h =
-        let within : matched < length (getD keptRows row []) = omega (arith, r .long) in
-        record {
-          inside = omega (arith, t .inside row matched (r .few) within, t .long);
-          prize =
-              ap (λ i. getD table i 0) e
-              ∙ subst (λ u. cond u 0 (getD table (placeIn word matched) 0) ≡ keptPrize row matched) paid (t .prizes row matched (r .few) within);
-        }
-
-    module _ {start run low : ℕ} (es : start ≡ startIn word) (er : run ≡ runIn word) (el : low ≡ lowIn word) where
-      pub low-cell : matched < run → matched < low → CellAt table row matched (start + matched)
-      low-cell below h =
-          let paid : leb (lowIn word) matched ≡ false = lt-leb (lowIn word) matched (omega arith) in
-          cell-at (start + matched) (omega arith) (rw paid refl) (omega (arith, t .shaped row (r .few) .1, r .long))
-
-      pub no-cell : matched < run → low ≤ matched → 0 ≡ keptPrize row matched
-      no-cell below h =
-          let above : leb (lowIn word) matched ≡ true = le-leb (lowIn word) matched (omega arith) in
-          let before : ltb matched (runIn word) ≡ true = lt-ltb matched (runIn word) (omega arith) in
-          let unpaid : isUnpaid word matched ≡ true = rw (above, before) refl in
-          subst (λ u. cond u 0 (getD table (placeIn word matched) 0) ≡ keptPrize row matched) unpaid
-          (t .prizes row matched (r .few) (omega (arith, t .shaped row (r .few) .1)))
-
-      pub run-cell : run ≤ matched → matched ≤ selection → CellAt table row matched (start + low + (matched - run))
-      run-cell above h =
-          let paid : ltb matched (runIn word) ≡ false = le-ltb matched (runIn word) (omega arith) in
-          cell-at (start + low + (matched - run)) (omega (arith, t .shaped row (r .few) .0)) (rw paid (and-false (leb (lowIn word) matched))) h
-
--- ---- a schedule that has rows for n selections, from the least on, which stand among those kept from a place on
-
-abbrev ofSize : ℕ → List ℕ → Bool
-ofSize selection row = eqb (length row) (suc selection)
-
--- no row below the least, none above the last, the same rows in both, each with a prize more than it has numbers
-pub record Stands (rows : List (List ℕ)) (least n at : ℕ) : Type 0 where
-  none : take least rows ≡ replicate least []
-  long : length rows ≡ least + n
-  same : take n (drop at keptRows) ≡ drop least rows
-  sizes : T (everyFrom ofSize least (drop least rows))
-  few : at + n ≤ 21
-
-pub standard-stands : Stands standardRows 1 15 0
-unfolding standardRows specialOneRows specialTwoRows keptRows
-standard-stands = record { none = refl; long = refl; same = refl; sizes = tt; few = omega arith }
-
-pub special-two-stands : Stands specialTwoRows 3 4 17
-unfolding standardRows specialOneRows specialTwoRows keptRows
-special-two-stands = record { none = refl; long = refl; same = refl; sizes = tt; few = omega arith }
-
-module _ {rows : List (List ℕ)} {least n at : ℕ} (st : Stands rows least n at) where
-  below-row : (s : ℕ) → s < least → getD rows s [] ≡ []
-  below-row s h = sym (getD-take least rows s [] h) ∙ ap (λ l. getD l s []) (st .none) ∙ getD-replicate least s [] [] h
-
-  above-row : (s : ℕ) → least + n ≤ s → getD rows s [] ≡ []
-  above-row s h = List·getD-eq-default rows [] (omega (arith, st .long))
-
-  module _ (m : ℕ) where
-    pub below-pays : (s : ℕ) → s < least → 0 ≡ cell rows s m
-    unfolding cell
-    below-pays s h = ap (λ row. getD row m 0) (sym (below-row s h))
-
-    pub above-pays : (s : ℕ) → least + n ≤ s → 0 ≡ cell rows s m
-    unfolding cell
-    above-pays s h = ap (λ row. getD row m 0) (sym (above-row s h))
-
-  -- the row kept of a selection
-  module _ (row s : ℕ) (e : row + least ≡ at + s) (h : least ≤ s) (k : s < least + n) where
-    again : least + (s - least) ≡ s
-    again = omega arith
-
-    there : getD keptRows row [] ≡ getD rows s []
-    there =
-        let place : row ≡ at + (s - least) = omega arith in
-        ap (λ i. getD keptRows i []) place ∙ sym (getD-drop at keptRows (s - least) [])
-        ∙ sym (getD-take n (drop at keptRows) (s - least) [] (omega arith))
-        ∙ ap (λ l. getD l (s - least) []) (st .same) ∙ getD-drop least rows (s - least) [] ∙ ap (λ i. getD rows i []) again
-
-    pub kept-row : RowOf row s
-    kept-row =
-        let size : T (ofSize (least + (s - least)) (getD (drop least rows) (s - least) [])) =
-        from-at ofSize [] (drop least rows) least (st .sizes) (s - least) (omega (arith, st .long, length-drop least rows)) in
-        record {
-          few = omega (arith, st .few);
-          long = ap length (there ∙ sym (getD-drop least rows (s - least) [] ∙ ap (λ i. getD rows i []) again)) ∙ eqb→eq _ _ size ∙ ap suc again;
-        }
-
-    pub kept-pays : (m : ℕ) → keptPrize row m ≡ cell rows s m
-    unfolding keptPrize cell
-    kept-pays m = ap (λ l. getD l m 0) there

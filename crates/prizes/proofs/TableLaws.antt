@@ -1,12 +1,14 @@
--- Laws of any table of prizes, whatever its size: a test computed over the whole table holds at each of its entries.
-use mathlib.Core.Path.{_≡_, _∙_, sym, subst, ap}
+-- Laws of any table of prizes, whatever its size: a test computed over all its entries, or over all numbers below one, holds at each.
+use mathlib.Core.Path.{_≡_, refl, sym, subst, ap}
 use mathlib.Core.Bool.{Bool, true, false, _&&_}
 use mathlib.Core.List.{List, [], _∷_}
-use Prim.Native.Nat.{ℕ, zero, suc, _+_, _<_}
-use native.Mathlib.Nat.{add-zero, add-suc, suc-add, le-of-suc-le-suc, not-suc-le-zero}
-use lib.Dec.{T}
-use lib.ListN.{length, getD, set}
+use Prim.Native.Nat.{ℕ, zero, suc, _<_}
+use native.Mathlib.Nat.{not-suc-le-zero}
+use native.Mathlib.Omega.{arith}
+use lib.Dec.{T, eqb}
+use lib.ListN.{getD, set}
 use lib.Seq.{getD-set-other}
+use borrow.Author.Tests.{eqb-true, eqb-false}
 use Rattle.sale.specs.Lists.{every}
 use Rattle.prizes.specs.Schedules.{cell}
 
@@ -22,17 +24,21 @@ module _ {A : Type 0} where
   every-at f d t (y ∷ ys) e zero = both (f y) (every f ys) e .0
   every-at f d t (y ∷ ys) e (suc k) = every-at f d t ys (both (f y) (every f ys) e .1) k
 
-  -- every entry passes the test of its place, counted from i
-  abbrev pub everyFrom : (ℕ → A → Bool) → ℕ → List A → Bool
-  everyFrom f i [] = true
-  everyFrom f i (y ∷ ys) = f i y && everyFrom f (suc i) ys
+-- all numbers below n pass a test
+abbrev pub allBelow : ℕ → (ℕ → Bool) → Bool
+allBelow zero f = true
+allBelow (suc n) f = f n && allBelow n f
 
-  pub from-at : (f : ℕ → A → Bool) (d : A) (ys : List A) (i : ℕ) → T (everyFrom f i ys) → (k : ℕ) → k < length ys → T (f (i + k) (getD ys k d))
-  from-at f d [] i e k h = absurd (not-suc-le-zero h)
-  from-at f d (y ∷ ys) i e zero h = subst (λ (n : ℕ). T (f n y)) (sym (add-zero i)) (both (f i y) (everyFrom f (suc i) ys) e .0)
-  from-at f d (y ∷ ys) i e (suc k) h =
-      subst (λ (n : ℕ). T (f n (getD ys k d))) (suc-add i k ∙ sym (add-suc i k))
-      (from-at f d ys (suc i) (both (f i y) (everyFrom f (suc i) ys) e .1) k (le-of-suc-le-suc h))
+below-next : (n : ℕ) (f : ℕ → Bool) (k : ℕ) → T (f n) → (k < n → T (f k)) → k < suc n → T (f k)
+below-next n f k t below h = go (eqb k n) refl
+  where
+    go : (b : Bool) → eqb k n ≡ b → T (f k)
+    go true e = subst (λ i. T (f i)) (sym (eqb-true k n e)) t
+    go false e = below (omega (arith, eqb-false k n e))
+
+pub below-at : (n : ℕ) (f : ℕ → Bool) → T (allBelow n f) → (k : ℕ) → k < n → T (f k)
+below-at zero f t k h = absurd (not-suc-le-zero h)
+below-at (suc n) f t k h = below-next n f k (both (f n) (allBelow n f) t .0) (below-at n f (both (f n) (allBelow n f) t .1) k) h
 
 module _ (rows : List (List ℕ)) where
   -- a test that every cell of the table passes, and 0 too, is passed by every selection and match

@@ -1,8 +1,9 @@
 // The schedules of prizes of rules 18.1, 18.2 and 18.3, in dollars for a stake of one dollar: looked up in their table, which is lent.
 use crate::schedule_table::Table;
 ghost use mathlib.Core.Path.{_≡_};
+ghost use lib.ListN.{getD};
 ghost use Rattle.prizes.specs.Schedules.{standardRows, specialOneRows, specialTwoRows, cell};
-ghost use Rattle.prizes.specs.ScheduleTable.{startIn, runIn, lowIn, keptPrize, RowOf, Schedules};
+ghost use Rattle.prizes.specs.ScheduleTable.{startIn, runIn, lowIn, prizeBy, WordAt, Schedules};
 
 // The place of a selection's first cell, from its word.
 fn start_of(word: u16) -> usize
@@ -25,12 +26,12 @@ fn low_of(word: u16) -> u32
     (word % 16) as u32
 }
 
-// The prize for a match of a selection whose word stands at the place `row`. Most matches pay nothing, and the word alone says so.
-fn row_prize(row: usize, selection: u32, matched: u32, schedules: &Table) -> u16
-    requires { ⌜ RowOf row selection × Schedules (now schedules) ⌝ }
-    ensures { λ r. ⌜ r ≡ keptPrize row matched ⌝ }
+// The prize for a match of a selection whose word stands at a place. Most matches pay nothing, and the word alone says so.
+fn row_prize(place: usize, selection: u32, matched: u32, schedules: &Table) -> u16
+    requires { ⌜ WordAt (now schedules) place selection ⌝ }
+    ensures { λ r. ⌜ r ≡ prizeBy (now (schedules .entry)) (getD (now (schedules .entry)) place 0) selection matched ⌝ }
 {
-    let word = schedules[row];
+    let word = schedules[place];
     let start = start_of(word);
     let run = run_of(word);
     let low = low_of(word);

@@ -1,68 +1,61 @@
--- `row_prize` meets its contract: each return is what the table has for the row and the match.
-use Prim.Native.Nat.{_+_, _-_}
+-- `row_prize` meets its contract: each return is the definition at its tests, and no place is past the selection's last cell.
+use mathlib.Core.Path.{_≡_, refl}
+use Prim.Native.Nat.{_+_, _-_, _<_}
 use native.Mathlib.Omega.{arith}
 use borrow.Author.Needs.{needs}
-use Rattle.prizes.proofs.KeptLaws.{CellAt, no-match, low-cell, no-cell, run-cell}
+use borrow.Author.Tests.{lt-ltb, le-ltb}
 use Rattle.prizes.proofs.schedule.row_prize.Statement.{statement}
 use Rattle.prizes.proofs.schedule.row_prize.Tie as tie
 
-element-copy-out-word : tie.Need-element-copy-out-word
-element-copy-out-word c = omega (arith, c .pre .0 .few)
+-- the last cell, by the code's figures
+last : (c : tie.After-low-of) → c .before .before .start-of .result + c .low-of .result + (c .before .before .before .before .args .selection - c .before .run-of .result) < 132
+last c = rw (c .before .before .start-of .ensures, c .low-of .ensures, c .before .run-of .ensures) (c .before .before .before .before .pre .inside)
 
-abbrev startOf : tie.After-low-of → tie.Start
-startOf c = c .before .before .before .before
+low : (c : tie.Then2) → c .before .before .before .before .start-of .result + c .before .before .before .before .before .before .args .matched < 132
+low c = omega (arith, last (c .before .before), c .if2 .taken)
 
--- the cell of a low match that pays
-low : (c : tie.Then2)
-    → CellAt (startOf (c .before .before) .args .schedules .now) (startOf (c .before .before) .args .row) (startOf (c .before .before) .args .matched)
-    (c .before .before .before .before .start-of .result + startOf (c .before .before) .args .matched)
-low c =
-    let word = c .before .before in
-    let start = startOf word in
-    low-cell (start .args .matched) (start .pre .0) (start .pre .1) (word .before .before .start-of .ensures) (word .before .run-of .ensures) (word .low-of .ensures)
-    (c .before .if1 .taken) (c .if2 .taken)
+run : (c : tie.Else3) → c .before .before .before .before .start-of .result + c .before .before .low-of .result + (c .before .before .before .before .before .before .args .matched - c .before .before .before .run-of .result) < 132
+run c = omega (arith, last (c .before .before), c .if3 .left)
 
--- the cell of a match of the run
-run : (c : tie.Else3)
-    → CellAt (startOf (c .before .before) .args .schedules .now) (startOf (c .before .before) .args .row) (startOf (c .before .before) .args .matched)
-    (c .before .before .before .before .start-of .result + c .before .before .low-of .result + (startOf (c .before .before) .args .matched - c .before .before .before .run-of .result))
-run c =
-    let word = c .before .before in
-    let start = startOf word in
-    run-cell (start .args .matched) (start .pre .0) (start .pre .1) (word .before .before .start-of .ensures) (word .before .run-of .ensures) (word .low-of .ensures)
-    (c .before .if1 .left) (c .if3 .left)
+returns : tie.Need-returns
+returns c =
+    let word = c .before .before .before in
+    rw (← word .before .before .start-of .ensures, ← word .before .run-of .ensures, ← word .low-of .ensures, lt-ltb _ _ (c .before .before .if1 .taken), lt-ltb _ _ (c .before .if2 .taken)) refl
 
 returns-2 : tie.Need-returns-2
 returns-2 c =
     let word = c .before .before in
-    let start = startOf word in
-    no-cell (start .args .matched) (start .pre .0) (start .pre .1) (word .before .before .start-of .ensures) (word .before .run-of .ensures) (word .low-of .ensures)
-    (c .before .if1 .taken) (c .if2 .left)
+    rw (← word .before .run-of .ensures, ← word .low-of .ensures, lt-ltb _ _ (c .before .if1 .taken), le-ltb _ _ (c .if2 .left)) refl
 
 returns-3 : tie.Need-returns-3
 returns-3 c =
-    let start = startOf (c .before .before) in
-    no-match (start .args .matched) (start .pre .0) (c .if3 .taken)
+    let word = c .before .before in
+    rw (← word .before .run-of .ensures, le-ltb _ _ (c .before .if1 .left), lt-ltb _ _ (c .if3 .taken)) refl
+
+returns-4 : tie.Need-returns-4
+returns-4 c =
+    let word = c .before .before .before in
+    rw (← word .before .before .start-of .ensures, ← word .before .run-of .ensures, ← word .low-of .ensures, le-ltb _ _ (c .before .before .if1 .left), le-ltb _ _ (c .before .if3 .left)) refl
 
 pub row-prize-spec : {M : Type 1} → statement M
 row-prize-spec =
     tie.close
     (tie.spec
     (λ c. search needs)
-    element-copy-out-word
+    (λ c. search needs)
     (λ c κs. search needs)
     (λ c κs. search needs)
     (λ c κs. search needs)
-    (λ c. omega (arith, low c .inside))
-    (λ c. omega (arith, low c .inside))
-    (λ c. low c .inside)
-    (λ c. low (c .before) .prize)
+    (λ c. omega (arith, low c))
+    (λ c. omega (arith, low c))
+    low
+    returns
     returns-2
     returns-3
     (λ c. search needs)
-    (λ c. omega (arith, run c .inside))
+    (λ c. omega (arith, run c))
     (λ c. search needs)
-    (λ c. omega (arith, run c .inside))
-    (λ c. omega (arith, run c .inside))
-    (λ c. run c .inside)
-    (λ c. run (c .before) .prize))
+    (λ c. omega (arith, run c))
+    (λ c. omega (arith, run c))
+    run
+    returns-4)
