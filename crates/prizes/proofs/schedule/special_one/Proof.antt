@@ -18,6 +18,12 @@ six c = subst (λ n. Keeps (c .before .args .schedules .now) 15 n specialOneRows
 eight : (c : tie.At-match-keys2) → Keeps (c .before .args .schedules .now) 16 (c .before .args .selection) specialOneRows
 eight c = subst (λ n. Keeps (c .before .args .schedules .now) 16 n specialOneRows) (sym (c .match .keys2)) (c .before .pre .eight)
 
+row-prize-requires : tie.Need-row-prize-requires
+row-prize-requires c κs = six c .word
+
+row-prize-requires-2 : tie.Need-row-prize-requires-2
+row-prize-requires-2 c κs = eight c .word
+
 returns : tie.Need-returns
 returns c = c .row-prize .ensures ∙ six (c .before) .prizes (c .before .before .args .matched)
 
@@ -32,4 +38,4 @@ returns-3 c =
 
 pub special-one-spec : {M : Type 1} → statement M
 special-one-spec =
-    tie.close (tie.spec (λ c κs. six c .word) (λ c κs. eight c .word) (λ c κs. search needs) returns returns-2 returns-3)
+    tie.close (tie.spec row-prize-requires row-prize-requires-2 (λ c κs. search needs) returns returns-2 returns-3)

@@ -12,6 +12,9 @@ use Rattle.prizes.proofs.schedule.special_two.Tie as tie
 row : (c : tie.Then2) → Keeps (c .before .before .args .schedules .now) (c .before .before .args .selection + 14) (c .before .before .args .selection) specialTwoRows
 row c = c .before .before .pre .special-two (c .before .before .args .selection) (c .before .if1 .left) (omega (arith, c .if2 .taken))
 
+row-prize-requires : tie.Need-row-prize-requires
+row-prize-requires c κs = row c .word
+
 returns : tie.Need-returns
 returns c = c .row-prize .ensures ∙ row (c .before) .prizes (c .before .before .before .args .matched)
 
@@ -25,4 +28,4 @@ returns-3 c = no-row-above specialTwoRows (c .before .before .args .selection) (
 
 pub special-two-spec : {M : Type 1} → statement M
 special-two-spec =
-    tie.close (tie.spec (λ c. search needs) (λ c κs. row c .word) returns returns-2 returns-3)
+    tie.close (tie.spec (λ c. search needs) row-prize-requires returns returns-2 returns-3)

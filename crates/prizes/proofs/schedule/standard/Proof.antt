@@ -12,6 +12,9 @@ use Rattle.prizes.proofs.schedule.standard.Tie as tie
 row : (c : tie.Then2) → Keeps (c .before .before .args .schedules .now) (c .before .before .args .selection - 1) (c .before .before .args .selection) standardRows
 row c = c .before .before .pre .standard (c .before .before .args .selection) (c .before .if1 .left) (omega (arith, c .if2 .taken))
 
+row-prize-requires : tie.Need-row-prize-requires
+row-prize-requires c κs = row c .word
+
 returns : tie.Need-returns
 returns c = c .row-prize .ensures ∙ row (c .before) .prizes (c .before .before .before .args .matched)
 
@@ -25,4 +28,4 @@ returns-3 c = no-row-above standardRows (c .before .before .args .selection) (c 
 
 pub standard-spec : {M : Type 1} → statement M
 standard-spec =
-    tie.close (tie.spec (λ c. search needs) (λ c κs. row c .word) returns returns-2 returns-3)
+    tie.close (tie.spec (λ c. search needs) row-prize-requires returns returns-2 returns-3)
