@@ -1,7 +1,7 @@
 /* A host in C: document 01's printed roll, one command at a time and in one roll,
- * a game with a winner and two jackpot hits, the live list after whatever issues
- * or closes tickets, and every stop and refusal of the boundary. Ends with 0, or
- * with 1 and a message for each check that fails. */
+ * a game with a winner and two jackpot hits, another whose last ball wins, the live
+ * list after whatever issues or closes tickets, and every stop and refusal of the
+ * boundary. Ends with 0, or with 1 and a message for each check that fails. */
 #include "wulipday.h"
 
 #include <stdio.h>
@@ -9,6 +9,7 @@
 
 #define BLANK 0xA5
 #define SALE_BYTES 89
+#define LUCKY_LAST_BYTES 93
 #define MOST_LIVE 200
 /* Bytes of a buffer beyond its live list, lent or not. */
 #define BEYOND 16
@@ -90,6 +91,16 @@ static void write_sale(uint8_t sale[SALE_BYTES], uint8_t kind, uint8_t stake, ui
     memset(sale, 0, SALE_BYTES);
     memcpy(sale, operands, sizeof operands);
     memset(sale + sizeof operands + first - 1, 1, numbers);
+}
+
+/* The same at 100, with a feature stake. */
+static void write_lucky_last(uint8_t sale[LUCKY_LAST_BYTES], uint8_t kind, uint8_t first,
+                             uint8_t numbers, uint8_t feature)
+{
+    const uint8_t feature_stake[] = {0, 0, 0, feature};
+    write_sale(sale, kind, 100, first, numbers);
+    sale[0] = 8;
+    memcpy(sale + SALE_BYTES, feature_stake, sizeof feature_stake);
 }
 
 /* A ticket on one number at 100 a game, with the ticket number it is to get. */
@@ -209,7 +220,7 @@ static void command_with_bytes_behind(lounge *lounge)
  * the stop says why. */
 static void no_command(lounge *lounge)
 {
-    static const uint8_t unknown[] = {8, 0, 1};
+    static const uint8_t unknown[] = {0xFF, 0, 1};
     uint8_t record[WULIPDAY_ANSWER_BYTES];
     memset(record, BLANK, sizeof record);
     open_lounge(lounge);
@@ -400,6 +411,34 @@ static void losing_house(lounge *lounge)
     CHECK(till.owed == 5000000 && till.retained == 4999900 && till.negative);
 }
 
+/* Three of three twice, 3,600 each. The last ball is 20, which the first ticket has:
+ * 2,000 for a dollar of its feature stake. */
+static void lucky_last(lounge *lounge)
+{
+    uint8_t sale[LUCKY_LAST_BYTES];
+    uint8_t record[WULIPDAY_ANSWER_BYTES];
+    open_lounge(lounge);
+    CHECK(gives(lounge, open_day_1, 3, (answer){1, 0, 1, 0}));
+    write_lucky_last(sale, 1, 1, 6, 200);
+    CHECK(gives(lounge, sale, LUCKY_LAST_BYTES, (answer){8, 31, 0, 0}));
+    write_lucky_last(sale, 0, 18, 3, 150);
+    CHECK(gives(lounge, sale, LUCKY_LAST_BYTES, (answer){8, 32, 0, 0}));
+    write_lucky_last(sale, 0, 18, 3, 200);
+    wulipday_report cut_off = wulipday_command(lounge->house, lounge->rows, lounge->marks, sale,
+                                               LUCKY_LAST_BYTES - 1, record);
+    CHECK(cut_off.stop == WULIPDAY_STOP_TOO_FEW_BYTES && cut_off.answers == 0);
+    CHECK(gives(lounge, sale, LUCKY_LAST_BYTES, (answer){8, 0, 1, 100 + 200}));
+    write_lucky_last(sale, 0, 17, 3, 200);
+    CHECK(gives(lounge, sale, LUCKY_LAST_BYTES, (answer){8, 0, 2, 100 + 200}));
+    CHECK_LISTS(lounge, 1, 2);
+    CHECK(draws(lounge, 2 * 3600 + 4000));
+    CHECK(gives(lounge, claim_1, 5, (answer){5, 0, 1, 3600 + 4000}));
+    CHECK(gives(lounge, claim_2, 5, (answer){5, 0, 2, 3600}));
+    wulipday_till_figures till = wulipday_till(lounge->house, lounge->rows);
+    CHECK(till.taken == 600 && till.paid == 11200 && till.owed == 0 && till.held == 0);
+    CHECK(till.retained == 11200 - 600 && till.negative);
+}
+
 int main(void)
 {
     static lounge lounge;
@@ -413,6 +452,7 @@ int main(void)
     two_hundred_live(&lounge);
     shared_jackpot(&lounge);
     losing_house(&lounge);
+    lucky_last(&lounge);
     if (failures > 0) {
         fprintf(stderr, "the host in C: %d checks failed\n", failures);
         return 1;

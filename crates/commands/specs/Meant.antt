@@ -1,4 +1,4 @@
--- Which command of the model a decoded one is. Sell's marks stand beside it.
+-- Which command of the model a decoded one is. A sale's marks stand beside it.
 use Prim.Native.Nat.{ℕ}
 use mathlib.Core.List.{List}
 use Rattle.sale.specs.Checks.{operandsOf}

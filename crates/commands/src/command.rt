@@ -14,7 +14,7 @@ ghost use Rattle.house.specs.View.{view};
 ghost use Rattle.house.specs.Parts.{Carried};
 ghost use Rattle.commands.specs.Meant.{meant};
 
-// The seven commands with their operands, at their width in document 01's table.
+// The commands with their operands, at their width on a roll. A sale with a feature is the command Lucky Last.
 pub enum Command {
     Open(u16),
     Sell(Sale),

@@ -1,4 +1,4 @@
-// Open and Transfer, and one part for all seven commands.
+// Open and Transfer, and one part for all commands.
 pub mod command;
 pub mod open;
 pub mod transfer;

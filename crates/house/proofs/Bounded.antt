@@ -12,26 +12,27 @@ use borrow.Author.Tests.{eqb-true}
 use Rattle.prizes.specs.Hits.{drawOf}
 use Rattle.sale.specs.Lists.{sum, keep, any, member}
 use Rattle.sale.specs.Ways.{ways}
-use Rattle.sale.specs.Price.{chargeLimit, paidGames, charge}
+use Rattle.sale.specs.Price.{chargeLimit, paidGames, gamePrice, charge}
 use Rattle.prizes.specs.Prize.{majorFloor}
 use Rattle.prizes.specs.Cut.{majorsLimit, payout}
 use Rattle.prizes.specs.Jackpots.{guaranteeOfSix, guaranteeOfEight}
 use Rattle.prizes.specs.Settle.{Entry}
 use Rattle.sale.specs.Bounds.{Sound, Playable}
 use Rattle.prizes.specs.Bounds.{ticketPrizesLimit}
-use Rattle.sale.specs.Checks.{Operands, wayCount, chargeOf}
+use Rattle.sale.specs.Checks.{Operands, featureStake, chargeOf}
 use Rattle.prizes.specs.declared.jackpot.Jackpot.{Jackpot}
 use Rattle.prizes.specs.declared.draw.Draw.{Draw}
 use Rattle.sale.proofs.KeepLaws.{length-keep-le}
 use Rattle.prizes.proofs.CutPayouts.{payout-le}
 use Rattle.prizes.proofs.SettleLaws.{prizes-within, contributions-within, seeds-within, debts-balance, six-guarantee-kept, eight-guarantee-kept}
-use Rattle.house.specs.Tickets.{Ticket, termsOf, runsIn, isLive, paidStakes, entryOf, withDue}
+use Rattle.house.specs.Tickets.{Ticket, termsOf, runsIn, isLive, ticketPrice, paidStakes, entryOf, withDue}
 use Rattle.house.specs.Model.{Model, fresh, ticketLimit, gameLimit, liveLimit, withMoney, withTransferred}
 use Rattle.house.specs.Commands.{ballsWith, runningIn, settlement, awarded, finishedOn, gameSettled, stillLive, withPrimary, transferred}
 use Rattle.house.specs.Till.{Figures, tillOf}
 use Rattle.house.specs.Balance.{Balanced}
 use Rattle.house.proofs.Ledger.{All, Kept, Orderly, houseOf, endedTickets, settledLedger}
 use Rattle.house.proofs.LiveTickets.{ended-live}
+use Rattle.house.proofs.SpanLaws.{price-kept}
 use Rattle.sale.proofs.WayLaws.{ways-few}
 pub use Rattle.house.proofs.MoneyLaws.{all-kept}
 
@@ -113,24 +114,23 @@ cut-within ps p found major = payout-le ps p (member-found p ps found)
 pub terms-sound : (o : Operands) → Playable o → Sound (termsOf o)
 terms-sound o p = record { groups = p .groups; stake = p .stake }
 
--- a ticket's paid stakes of one game, which are all of its stakes for it or nothing
+-- a ticket's paid stakes of one game, which are its whole price or nothing
 pub game-paid-within : (game g : ℕ) (t : Ticket) → Kept game t → paidStakes g (g + 1) t ≤ chargeLimit
 unfolding paidStakes charge
 game-paid-within game g t k =
-    let stakes = t .operands .stake * t .ways in
-    let once : stakes * (min (g + 1) (t .free) - min g (t .free)) ≤ stakes * 1 = mul-le-mul-left stakes (omega arith) in
-    let counted : stakes ≡ t .operands .stake * wayCount (t .operands) = ap (λ n. t .operands .stake * n) (k .fixed .counted) in
-    omega (arith, once, mul-one stakes, counted, k .fixed .playable .oneGame)
+    let price = ticketPrice t in
+    let once : price * (min (g + 1) (t .free) - min g (t .free)) ≤ price * 1 = mul-le-mul-left price (omega arith) in
+    omega (arith, once, mul-one price, price-kept t k, k .fixed .playable .oneGame)
 
 -- those of any of its games: what is held for it, or paid back
 pub span-paid-within : (game from upto : ℕ) (t : Ticket) → Kept game t → t .first ≤ from → paidStakes from upto t ≤ chargeLimit
 unfolding paidStakes charge
 span-paid-within game from upto t k begun =
-    let stakes = t .operands .stake * t .ways in
+    let price = ticketPrice t in
     let games : min upto (t .free) - min from (t .free) ≤ paidGames (t .operands .games) = omega (arith, k .fixed .freeFrom) in
-    let most : stakes * (min upto (t .free) - min from (t .free)) ≤ stakes * paidGames (t .operands .games) = mul-le-mul-left stakes games in
-    let counted : stakes * paidGames (t .operands .games) ≡ chargeOf (t .operands) = ap (λ n. t .operands .stake * n * paidGames (t .operands .games)) (k .fixed .counted) in
-    omega (arith, most, counted, k .fixed .playable .charge)
+    let most : price * (min upto (t .free) - min from (t .free)) ≤ price * paidGames (t .operands .games) = mul-le-mul-left price games in
+    let charged : price * paidGames (t .operands .games) ≡ chargeOf (t .operands) = ap (λ n. n * paidGames (t .operands .games)) (price-kept t k) in
+    omega (arith, most, charged, k .fixed .playable .charge)
 
 -- ---- the ledger
 
@@ -153,14 +153,24 @@ pub bounded-fresh : Bounded fresh
 unfolding stillLive keep
 bounded-fresh = omega arith
 
--- the two bounds of an entry of a game
+-- a feature stake is a part of the price
+pub feature-stake-within : (o : Operands) → Playable o → featureStake (o .feature) ≤ chargeLimit
+unfolding gamePrice
+feature-stake-within o p = omega (arith, p .oneGame)
+
+-- the bounds of an entry of a game
 record EntryBounded (x : Entry) : Type 0 where
   few : length (ways (x .terms .groups) (x .terms .types)) ≤ 255
   paid : x .paid ≤ chargeLimit
+  feature : x .feature ≤ chargeLimit
 
 entry-bounded : (game : ℕ) (t : Ticket) → Kept game t → EntryBounded (entryOf game t)
 entry-bounded game t k =
-    record { few = ways-few (t .operands .types) (k .fixed .playable .groups); paid = game-paid-within game game t k }
+    record {
+      few = ways-few (t .operands .types) (k .fixed .playable .groups);
+      paid = game-paid-within game game t k;
+      feature = feature-stake-within (t .operands) (k .fixed .playable);
+    }
 
 module _ (m : Model) (ok : Orderly m) (few : length (stillLive (m .game) (m .live)) ≤ liveLimit) (b : ℕ) where
   entries : List Entry
@@ -189,7 +199,7 @@ module _ (m : Model) (ok : Orderly m) (few : length (stillLive (m .game) (m .liv
       omega (
         arith,
         entries-few,
-        prizes-within cut-within draw (m .six) (m .eight) entries 255 (λ x among. each-bounded x among .few),
+        prizes-within cut-within draw (m .six) (m .eight) entries 255 chargeLimit (λ x among. each-bounded x among .few) (λ x among. each-bounded x among .feature),
         contributions-within draw (m .six) (m .eight) entries,
         sum-within (λ x. x .paid) chargeLimit entries (λ x among. each-bounded x among .paid),
       )

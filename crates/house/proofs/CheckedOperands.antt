@@ -1,4 +1,4 @@
--- Operands that Sell's checks accept are playable. The stakes of one game are within the charge, since at least one game is paid for; and one
+-- Operands that a sale's checks accept are playable. The price of one game is within the charge, since at least one game is paid for; and one
 -- stake is within those, since there is a way: where k is the highest count of groups that the types nominate, the first k groups together
 -- are one.
 use Prim.Native.Nat.{ℕ, zero, suc, _*_, _-_, _/_, _^_, _≤_, _<_}
@@ -14,8 +14,8 @@ use lib.Pow.{pow-mono, ones-lt}
 use borrow.Author.Tests.{ltb-true, ltb-false, leb-true}
 use Rattle.sale.specs.Lists.{below, keep, every}
 use Rattle.sale.specs.Ways.{nominated, ways}
-use Rattle.sale.specs.Price.{chargeLimit, paidGames, charge}
-use Rattle.sale.specs.Checks.{Operands, marksFit, operandCode, wayCount}
+use Rattle.sale.specs.Price.{chargeLimit, paidGames, gamePrice, charge}
+use Rattle.sale.specs.Checks.{Operands, marksFit, operandCode, wayCount, priceOf}
 use Rattle.sale.specs.Bounds.{Playable}
 use Rattle.house.proofs.Refusals.{and-true, OperandsAccepted, operands-accepted}
 
@@ -39,7 +39,7 @@ some-kept f (y ∷ ys) x (List·Memᴰ·tail later) passes = go (f y) (some-kept
     go true rest = omega arith
     go false rest = rest
 
-some-way : (g types : ℕ) → (types ≡ 0 → ⊥) → types < 2 ^ g → 1 ≤ length (ways g types)
+pub some-way : (g types : ℕ) → (types ≡ 0 → ⊥) → types < 2 ^ g → 1 ≤ length (ways g types)
 unfolding ways nominated
 some-way g types some few =
     let top = leading-top g types (omega arith) few in
@@ -58,7 +58,7 @@ every-le g [] e n = omega arith
 every-le g (x ∷ xs) e zero = leb-true x g (and-true _ _ e .0)
 every-le g (x ∷ xs) e (suc n) = every-le g xs (and-true (leb x g) _ e .1) n
 
-mark-within : (g : ℕ) (marks : List ℕ) → marksFit g marks ≡ true → (n : ℕ) → getD marks n 0 ≤ g
+pub mark-within : (g : ℕ) (marks : List ℕ) → marksFit g marks ≡ true → (n : ℕ) → getD marks n 0 ≤ g
 unfolding marksFit
 mark-within g marks e =
     let counted = eqb (length marks) 80 in
@@ -79,14 +79,15 @@ paid-games-some games some = go (ltb games 50) refl (ltb games 100)
 -- ---- the bounds
 
 module _ (o : Operands) (a : OperandsAccepted o) where
-  one-game-within : o .stake * wayCount o ≤ chargeLimit
+  one-game-within : priceOf o ≤ chargeLimit
   unfolding charge
   one-game-within =
-      let stakes = o .stake * wayCount o in
-      let once : stakes * 1 ≤ stakes * paidGames (o .games) = mul-le-mul-left stakes (paid-games-some (o .games) (a .someGames)) in
-      omega (arith, once, a .charge, mul-one stakes)
+      let price = priceOf o in
+      let once : price * 1 ≤ price * paidGames (o .games) = mul-le-mul-left price (paid-games-some (o .games) (a .someGames)) in
+      omega (arith, once, a .charge, mul-one price)
 
   stake-within : o .stake ≤ chargeLimit
+  unfolding gamePrice
   stake-within =
       let one : o .stake * 1 ≤ o .stake * wayCount o = mul-le-mul-left (o .stake) (some-way (o .groups) (o .types) (a .someTypes) (a .fewTypes)) in
       omega (arith, one, one-game-within, mul-one (o .stake))

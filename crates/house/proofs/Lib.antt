@@ -1,6 +1,7 @@
 pub mod Ledger
 pub mod Refusals
 pub mod CheckedOperands
+pub mod FeatureNumbers
 pub mod ListLaws
 pub mod LiveTickets
 pub mod OrderlyLedgers

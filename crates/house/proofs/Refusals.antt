@@ -13,7 +13,7 @@ use Rattle.sale.specs.Lists.{member}
 use Rattle.sale.specs.Kinds.{kindOf, isSpecialOne, sizesFit}
 use Rattle.sale.specs.Ways.{sizes, waySizes}
 use Rattle.sale.specs.Price.{chargeLimit, stakeFits}
-use Rattle.sale.specs.Checks.{Operands, firstMet, marksFit, operandRows, operandCode, wayCount, chargeOf}
+use Rattle.sale.specs.Checks.{Operands, firstMet, marksFit, featureRow, featureStakeRow, operandRows, operandCode, wayCount, chargeOf}
 use Rattle.house.specs.Tickets.{isFinished, kenoToGoBegun}
 use Rattle.house.specs.Model.{Model, gameLimit, liveLimit, ticketLimit, isDrawing, nextGame}
 use Rattle.house.specs.Commands.{sell, cancel, ball, claim, transfer, ticketAt, hasTicket, cancelStop, rowsOf, codeOf}
@@ -82,7 +82,9 @@ pub record OperandsAccepted (o : Operands) : Type 0 where
   pub fewTypes : o .types < 2 ^ o .groups
   pub sized : sizesFit (kindOf (o .kind)) (waySizes (o .groups) (o .types) (sizes (o .marks))) ≡ true
   pub special : (isSpecialOne (kindOf (o .kind)) && eqb (wayCount o) 1) ≡ false
+  pub feature : featureRow o .0 ≡ false
   pub stake : stakeFits (kindOf (o .kind)) (wayCount o) (o .stake) ≡ true
+  pub featureStaked : featureStakeRow o .0 ≡ false
   pub charge : chargeOf o ≤ chargeLimit
 
 marks-eighty : (g : ℕ) (marks : List ℕ) → marksFit g marks ≡ true → length marks ≡ 80
@@ -112,8 +114,10 @@ operands-accepted o e =
       fewTypes = leb-false _ _ (types .1);
       sized = not-false _ (p .1 .1 .1 .1 .1 .0);
       special = p .1 .1 .1 .1 .1 .1 .0;
-      stake = not-false _ (p .1 .1 .1 .1 .1 .1 .1 .0);
-      charge = ltb-false _ _ (p .1 .1 .1 .1 .1 .1 .1 .1 .0);
+      feature = p .1 .1 .1 .1 .1 .1 .1 .0;
+      stake = not-false _ (p .1 .1 .1 .1 .1 .1 .1 .1 .0);
+      featureStaked = p .1 .1 .1 .1 .1 .1 .1 .1 .1 .0;
+      charge = ltb-false _ _ (p .1 .1 .1 .1 .1 .1 .1 .1 .1 .1 .0);
     }
 
 -- ---- the commands, accepted
@@ -156,7 +160,7 @@ pub record TransferAccepted (m : Model) (j cents : ℕ) : Type 0 where
   pub some : 0 < cents
   pub covered : cents ≤ m .counters .unclaimed
 
--- Sell's rows below those of its operands
+-- a sale's rows below those of its operands
 abbrev pub saleRows : Model → Operands → List (Bool × ℕ)
 saleRows m o =
     (leb liveLimit (length (m .live)), 16)

@@ -13,9 +13,12 @@ use lib.Dec.{lit<, eqb, ltb, leb·suc-suc}
 use lib.ListN.{length, getD, set, take, drop, length-set, length-map, length-take, length-drop}
 use lib.Seq.{sets, sets-eq, length-sets, set-set, getD-set-same, getD-set-other, getD-take, getD-drop, ext-getD, take-set-lt, take-suc-set, length-take-le, take-at, drop-at, set-split}
 use Rattle.sale.specs.Lists.{keep, any}
+use Rattle.sale.specs.Checks.{hasFeature, featureStake}
+use Rattle.sale.specs.declared.terms.Feature.{Feature}
+use Rattle.sale.specs.declared.terms.Feature.the-variants.{Absent, LuckyLast}
 use Rattle.house.specs.Tickets.{Ticket, isLive}
 use Rattle.house.specs.Commands.{blankTicket, ticketAt, hasTicket, changed, stillLive}
-use Rattle.house.specs.View.{rowOf, putRow, marksAt, putMarks, ticketFrom, ticketIn, ticketsOf, placeOf, RisingRows, without, shifted}
+use Rattle.house.specs.View.{rowOf, putRow, marksAt, putMarks, featureFrom, ticketFrom, ticketIn, ticketsOf, placeOf, RisingRows, without, shifted}
 use Rattle.house.specs.declared.rows.Row.{Row}
 use Rattle.house.proofs.Ledger.{All}
 use Rattle.house.proofs.RowLists.{getD-sets-before, getD-sets-after, getD-sets-at, sets-more, length-table, getD-table, getD-map, equal-or-not, earlier-or-not, length-without, without-before, without-behind, length-shifted, shifted-before, shifted-within}
@@ -47,14 +50,29 @@ tickets-set words marks words′ marks′ i t h e others =
     (simp length-set (omega arith))
     (λ j b. ⊎-elim (same j) (other j (omega arith)) (equal-or-not j i))
 
+-- ---- a row's feature word
+
+-- the word is the feature's stake, and 0 is that of none
+pub row-feature : (stake : ℕ) → featureStake (featureFrom stake) ≡ stake
+row-feature stake = go (eqb stake 0) refl
+  where
+    go : (none : Bool) → eqb stake 0 ≡ none → featureStake (cond none Absent (LuckyLast stake)) ≡ stake
+    go true same = sym (eqb-true stake 0 same)
+    go false other = refl
+
+-- and a feature that is entered with a stake is read back from it
+pub feature-kept : (f : Feature) → (hasFeature f ≡ true → featureStake f ≡ 0 → ⊥) → featureFrom (featureStake f) ≡ f
+feature-kept Absent staked = refl
+feature-kept (LuckyLast stake) staked = rw (ne-eqb stake 0 (staked refl))
+
 -- ---- a row written to its place
 
 abbrev wordsOf : Row → List ℕ
 wordsOf w =
-    w .number ∷ w .kind ∷ w .games ∷ w .stake ∷ w .groups ∷ w .types ∷ w .ways ∷ w .jackpot ∷ w .sold ∷ w .first ∷ w .stop ∷ w .free ∷ w .due ∷ w .finished ∷ w .sizes ∷ []
+    w .number ∷ w .kind ∷ w .games ∷ w .stake ∷ w .groups ∷ w .types ∷ w .ways ∷ w .jackpot ∷ w .sold ∷ w .first ∷ w .stop ∷ w .free ∷ w .due ∷ w .finished ∷ w .sizes ∷ w .feature ∷ []
 
 -- rows that agree word by word
-row-from : (words words′ : List ℕ) (at at′ : ℕ) → ((k : ℕ) → k < 15 → getD words (at + k) 0 ≡ getD words′ (at′ + k) 0)
+row-from : (words words′ : List ℕ) (at at′ : ℕ) → ((k : ℕ) → k < 16 → getD words (at + k) 0 ≡ getD words′ (at′ + k) 0)
     → rowOf words at ≡ rowOf words′ at′
 row-from words words′ at at′ same =
     let first : getD words at 0 ≡ getD words′ at′ 0 =
@@ -76,15 +94,16 @@ row-from words words′ at at′ same =
       due = same 12 (lit< tt) x;
       finished = same 13 (lit< tt) x;
       sizes = same 14 (lit< tt) x;
+      feature = same 15 (lit< tt) x;
     }
 
 module _ (words : List ℕ) (long : length words ≡ 3200) (i : ℕ) (h : i < 200) where
-  row-of-sets : (vs : List ℕ) → length vs ≡ 15 → rowOf (sets words (i * 16) vs) (i * 16) ≡ rowOf vs 0
+  row-of-sets : (vs : List ℕ) → length vs ≡ 16 → rowOf (sets words (i * 16) vs) (i * 16) ≡ rowOf vs 0
   row-of-sets vs e =
       row-from (sets words (i * 16) vs) vs (i * 16) 0
       (λ k b. getD-sets-at vs words (i * 16) k 0 (omega arith) (omega arith) ∙ ap (λ n. getD vs n 0) (sym (zero-add k)))
 
-  row-beside-sets : (vs : List ℕ) → length vs ≡ 15 → (j : ℕ) → (j ≡ i → ⊥)
+  row-beside-sets : (vs : List ℕ) → length vs ≡ 16 → (j : ℕ) → (j ≡ i → ⊥)
       → rowOf (sets words (i * 16) vs) (j * 16) ≡ rowOf words (j * 16)
   row-beside-sets vs e j n =
       row-from (sets words (i * 16) vs) words (j * 16) (j * 16)
@@ -353,7 +372,7 @@ take-sold n ts t h = ap (λ k. take k (set ts n t)) (add-one n) ∙ take-suc-set
 
 -- tickets that agree word by word and mark by mark
 ticket-from : (words marks words′ marks′ : List ℕ) → length marks ≡ 16000 → length marks′ ≡ 16000 → (j j′ : ℕ) → j < 200 → j′ < 200
-    → ((k : ℕ) → k < 15 → getD words (j * 16 + k) 0 ≡ getD words′ (j′ * 16 + k) 0)
+    → ((k : ℕ) → k < 16 → getD words (j * 16 + k) 0 ≡ getD words′ (j′ * 16 + k) 0)
     → ((k : ℕ) → k < 80 → getD marks (j * 80 + k) 0 ≡ getD marks′ (j′ * 80 + k) 0)
     → ticketIn words marks j ≡ ticketIn words′ marks′ j′
 ticket-from words marks words′ marks′ long long′ j j′ h h′ same same′ =

@@ -11,7 +11,7 @@ use lib.ListN.{length}
 use borrow.Author.Tests.{eqb-true, ne-eqb}
 use Rattle.prizes.specs.Hits.{drawOf}
 use Rattle.sale.specs.Lists.{sum, keep, any, member}
-use Rattle.sale.specs.Checks.{Operands, chargeOf, wayCount}
+use Rattle.sale.specs.Checks.{Operands, priceOf, chargeOf}
 use Rattle.sale.specs.Price.{charge, paidGames}
 use Rattle.prizes.specs.Settle.{settle}
 use Rattle.house.specs.Tickets.{Ticket, runsIn, isLive, paidStakes, heldFor, entryOf, withDue, withStop}
@@ -244,7 +244,7 @@ sold-held m o =
     let next : m .game ≤ nextGame m = next-game-least m in
     let first : max (nextGame m) (m .game) ≡ nextGame m = omega arith in
     ap (λ a. paidStakes a (nextGame m + o .games) (soldTicket m o)) first
-    ∙ ap (charge (o .stake) (wayCount o))
+    ∙ ap (charge (priceOf o))
     (paid-in-span (nextGame m) (o .games) (paidGames (o .games)) (paid-games-within (o .games)))
 
 -- ---- Expire
@@ -295,7 +295,13 @@ module _ (m : Model) where
 
 line-entry : (game : ℕ) (t : Ticket) → Kept game t → lineEntry game (lineOf game t) ≡ entryOf game t
 line-entry game t kept =
-    λ i. record { terms = entryOf game t .terms; marks = t .operands .marks; paid = stakes-of-game game t kept i }
+    λ i.
+    record {
+      terms = entryOf game t .terms;
+      marks = t .operands .marks;
+      paid = stakes-of-game game t kept i;
+      feature = entryOf game t .feature;
+    }
 
 -- the sheet settles the entries that the house settles
 pub entries-alike : (m : Model) → Orderly m →

@@ -1,6 +1,6 @@
 -- Laws on the games of a span: which of them pass a test, by induction on the span; which a ticket has left; and that a ticket and its line
 -- count the same paid stakes for them.
-use Prim.Native.Nat.{ℕ, zero, suc, _+_, _-_, _*_, _≤_, _<_, min, max}
+use Prim.Native.Nat.{ℕ, zero, suc, _+_, _-_, _≤_, _<_, min, max}
 use mathlib.Core.Path.{_≡_, refl, sym, ap, ap₂, _∙_}
 use mathlib.Core.Bool.{Bool, true, false, cond, not, _&&_, _||_, true≢false, false≢true}
 use mathlib.Core.List.{[], _∷_}
@@ -11,9 +11,9 @@ use lib.Dec.{ltb, leb, eqb}
 use lib.ListN.{length}
 use borrow.Author.Tests.{ltb-true, ltb-false, leb-true, leb-false, eq-eqb, ne-eqb}
 use Rattle.sale.specs.Lists.{keep, any, member}
-use Rattle.sale.specs.Checks.{wayCount}
-use Rattle.sale.specs.Price.{charge}
-use Rattle.house.specs.Tickets.{Ticket, runsIn, gamesLeft, paidStakes, heldFor}
+use Rattle.sale.specs.Checks.{featureStake, priceOf}
+use Rattle.sale.specs.Price.{gamePrice, charge}
+use Rattle.house.specs.Tickets.{Ticket, runsIn, gamesLeft, ticketPrice, paidStakes, heldFor}
 use Rattle.house.specs.Sheet.{gamesFrom, stakesOf}
 use Rattle.house.proofs.Ledger.{Kept, lineOf}
 
@@ -175,13 +175,17 @@ drawn-left game t =
 
 -- ---- paid stakes
 
-pub charge-none : (stake count : ℕ) → charge stake count 0 ≡ 0
+pub charge-none : (price : ℕ) → charge price 0 ≡ 0
 unfolding charge
-charge-none stake count = mul-zero (stake * count)
+charge-none price = mul-zero price
 
-pub charge-both : (stake count m n : ℕ) → charge stake count (m + n) ≡ charge stake count m + charge stake count n
+pub charge-both : (price m n : ℕ) → charge price (m + n) ≡ charge price m + charge price n
 unfolding charge
-charge-both stake count m n = mul-add (stake * count) m n
+charge-both price m n = mul-add price m n
+
+-- a ticket's price of a game is that of its operands
+pub price-kept : {game : ℕ} (t : Ticket) → Kept game t → ticketPrice t ≡ priceOf (t .operands)
+price-kept t kept = ap (λ n. gamePrice (t .operands .stake) n (featureStake (t .operands .feature))) (kept .fixed .counted)
 
 -- what lies between two numbers, split at a third
 between : (x y z : ℕ) → x ≤ y → z - x ≡ min z y - x + (z - y)
@@ -197,14 +201,14 @@ stakes-split a b c t before =
     between (min a (t .free)) (min b (t .free)) (min c (t .free)) ordered
     ∙ ap (λ n. n - min a (t .free) + (min c (t .free) - min b (t .free))) cut
     in
-    ap (charge (t .operands .stake) (t .ways)) games
-    ∙ charge-both (t .operands .stake) (t .ways) (min (min c b) (t .free) - min a (t .free)) (min c (t .free) - min b (t .free))
+    ap (charge (ticketPrice t)) games
+    ∙ charge-both (ticketPrice t) (min (min c b) (t .free) - min a (t .free)) (min c (t .free) - min b (t .free))
 
 pub stakes-none : (a c : ℕ) (t : Ticket) → c ≤ a → paidStakes a c t ≡ 0
 unfolding paidStakes
 stakes-none a c t over =
     let games : min c (t .free) - min a (t .free) ≡ 0 = omega arith in
-    ap (charge (t .operands .stake) (t .ways)) games ∙ charge-none (t .operands .stake) (t .ways)
+    ap (charge (ticketPrice t)) games ∙ charge-none (ticketPrice t)
 
 -- a finished ticket holds nothing
 pub held-none : (game : ℕ) (t : Ticket) → gamesLeft game t ≡ 0 → heldFor game t ≡ 0
@@ -216,9 +220,9 @@ pub stakes-of-line : (game : ℕ) (t : Ticket) → Kept game t → (a c : ℕ) �
 unfolding stakesOf paidStakes
 stakes-of-line game t kept a c =
     let games : min (c - a) (t .free - a) ≡ min c (t .free) - min a (t .free) = omega arith in
-    ap (λ free. charge (t .operands .stake) (wayCount (t .operands)) (length (keep (λ g. ltb g free) (gamesFrom a (c - a)))))
+    ap (λ free. charge (priceOf (t .operands)) (length (keep (λ g. ltb g free) (gamesFrom a (c - a)))))
     (sym (kept .fixed .freeFrom))
-    ∙ ap₂ (charge (t .operands .stake)) (sym (kept .fixed .counted))
+    ∙ ap₂ charge (sym (price-kept t kept))
     (ap length (keep-below (t .free) a (c - a)) ∙ length-games a (min (c - a) (t .free - a)) ∙ games)
 
 pub stakes-of-game : (game : ℕ) (t : Ticket) → Kept game t → stakesOf (lineOf game t) (game ∷ []) ≡ paidStakes game (game + 1) t

@@ -1,4 +1,4 @@
--- Demand 3: "The till balances. Take any list of the seven commands [..], refused ones included, run from a fresh house, each on the house the
+-- Demand 3: "The till balances. Take any list of the [..] commands [..], refused ones included, run from a fresh house, each on the house the
 -- last one left." The statement; the proof is till-balances in proofs/Theorem.antt.
 use Prim.Native.Nat.{ℕ, _+_, _≤_}
 use mathlib.Core.Path.{_≡_}

@@ -1,4 +1,4 @@
--- The seven commands: "Checked in this order [..] Top to bottom; the first met is given, and only then. A refusal answers its number, 0, 0 and
+-- The eight commands: "Checked in this order [..] Top to bottom; the first met is given, and only then. A refusal answers its number, 0, 0 and
 -- changes no house". Each command has its rows of the refusal table, what it does and what it answers; `step` puts them together.
 use Prim.Native.Nat.{ℕ, _+_, min, max}
 use mathlib.Core.Bool.{Bool, cond, not, _&&_, _||_}
@@ -13,6 +13,7 @@ use Rattle.prizes.specs.Hits.{drawOf}
 use Rattle.prizes.specs.Settle.{Settled, settle}
 use Rattle.prizes.specs.declared.draw.Draw.{Draw}
 use Rattle.sale.specs.Kinds.{jackpotBy}
+use Rattle.sale.specs.declared.terms.Feature.the-variants.{Absent}
 use Rattle.calendar.specs.Calendar.{hasExpired}
 use Rattle.prizes.specs.declared.jackpot.Jackpot.{Jackpot}
 pub use Rattle.house.specs.declared.answer.Answer.{Answer}
@@ -24,7 +25,7 @@ use Rattle.house.specs.Model.{Model, Counters, ticketLimit, gameLimit, l
 
 abbrev pub blankTicket : Ticket
 blankTicket =
-    record { number = 0; operands = record { kind = 0; games = 0; stake = 0; groups = 0; types = 0; marks = [] }; ways = 0; jackpot = 0; sizes = 0; soldDay = 0; first = 0; stop = 0; free = 0; due = 0; finishedDay = 0 }
+    record { number = 0; operands = record { kind = 0; games = 0; stake = 0; groups = 0; types = 0; feature = Absent; marks = [] }; ways = 0; jackpot = 0; sizes = 0; soldDay = 0; first = 0; stop = 0; free = 0; due = 0; finishedDay = 0 }
 
 -- the live ticket of a number, or the blank one
 unfoldable pub ticketAt : ℕ → List Ticket → Ticket

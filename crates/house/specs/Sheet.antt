@@ -12,7 +12,7 @@ use Rattle.prizes.specs.Hits.{drawOf}
 use Rattle.sale.specs.Lists.{sum, keep, member}
 use Rattle.sale.specs.Kinds.{kindOf}
 use Rattle.sale.specs.Price.{paidGames, charge}
-use Rattle.sale.specs.Checks.{Operands, wayCount, chargeOf}
+use Rattle.sale.specs.Checks.{Operands, featureStake, priceOf, chargeOf}
 use Rattle.prizes.specs.Jackpots.{guaranteeOfSix, guaranteeOfEight, freshSeeds, freshJackpot}
 use Rattle.prizes.specs.Settle.{Entry, Settled, settle}
 use Rattle.calendar.specs.Calendar.{hasExpired}
@@ -115,10 +115,10 @@ unfoldable pub gamesFrom : ℕ → ℕ → List ℕ
 gamesFrom first zero = []
 gamesFrom first (suc n) = first ∷ gamesFrom (first + 1) n
 
--- the paid stakes of some games of a line: its last ones are free
+-- the paid stakes of some games of a line, its feature stake among them: its last games are free
 unfoldable pub stakesOf : Line → List ℕ → ℕ
 stakesOf l games =
-    charge (l .operands .stake) (wayCount (l .operands))
+    charge (priceOf (l .operands))
     (length (keep (λ g. ltb g (l .first + paidGames (l .operands .games))) games))
 
 abbrev pub lineEntry : ℕ → Line → Entry
@@ -127,6 +127,7 @@ lineEntry game l =
       terms = record { kind = kindOf (l .operands .kind); games = l .operands .games; stake = l .operands .stake; groups = l .operands .groups; types = l .operands .types };
       marks = l .operands .marks;
       paid = stakesOf l (game ∷ []);
+      feature = featureStake (l .operands .feature);
     }
 
 -- a line with other games left: "A line gets today as its finishing day when its last game goes."
@@ -154,7 +155,8 @@ sheetOpen d s =
 abbrev pub inDraw : Sheet → Bool
 inDraw s = not (eqb (length (s .balls)) 0)
 
--- "Sell adds a line: its operands, the games left (all it is sold for), due 0. The charge joins taken and held."
+-- "Sell adds a line: its operands, the games left (all it is sold for), due 0. The charge joins taken and held." With Lucky Last the feature stake is
+-- among the operands and in the charge.
 abbrev pub newLine : Operands → Sheet → Line
 newLine o s =
     let first = cond (inDraw s) (s .game + 1) (s .game) in
@@ -189,7 +191,7 @@ unfoldable pub sheetSettlement : ℕ → Sheet → Settled
 sheetSettlement b s =
     settle (drawOf (s .balls ++ (b ∷ []))) (s .six) (s .eight) (map (lineEntry (s .game)) (playing s))
 
--- "Prizes as cut and jackpot shares join the lines' dues [..]. The game is left no more"
+-- "Prizes as cut and jackpot shares join the lines' dues [..]. The game is left no more". A feature prize is a prize that no cut touches.
 unfoldable pub settleLines : ℕ → ℕ → List ℕ → List Line → List Line
 settleLines today game awards [] = []
 settleLines today game [] (l ∷ ls) = l ∷ settleLines today game [] ls

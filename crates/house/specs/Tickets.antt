@@ -5,8 +5,8 @@ use Prim.Native.Nat.{ℕ, _+_, _-_, min, max}
 use mathlib.Core.Bool.{Bool, not, _&&_, _||_}
 use lib.Dec.{ltb, leb, eqb}
 use Rattle.sale.specs.Kinds.{kindOf}
-use Rattle.sale.specs.Price.{charge}
-use Rattle.sale.specs.Checks.{Operands}
+use Rattle.sale.specs.Price.{gamePrice, charge}
+use Rattle.sale.specs.Checks.{Operands, featureStake}
 use Rattle.prizes.specs.Settle.{Entry}
 use Rattle.sale.specs.declared.terms.Terms.{Terms}
 
@@ -43,18 +43,27 @@ isFinished game t = eqb (gamesLeft game t) 0
 abbrev pub isLive : ℕ → Ticket → Bool
 isLive game t = not (isFinished game t && eqb (t .due) 0)
 
+-- what it pays for a game, its ways and its feature together
+abbrev pub ticketPrice : Ticket → ℕ
+ticketPrice t = gamePrice (t .operands .stake) (t .ways) (featureStake (t .operands .feature))
+
 -- the paid stakes of the games from one up to another: those from the first free game on are not paid
 unfoldable pub paidStakes : ℕ → ℕ → Ticket → ℕ
-paidStakes from upto t = charge (t .operands .stake) (t .ways) (min upto (t .free) - min from (t .free))
+paidStakes from upto t = charge (ticketPrice t) (min upto (t .free) - min from (t .free))
 
 -- of the games that are left
 abbrev pub heldFor : ℕ → Ticket → ℕ
 heldFor game t = paidStakes (max (t .first) game) (t .stop) t
 
--- the ticket as an entry of a game that it runs in
+-- the ticket as an entry of a game that it runs in; it plays for its feature in free games too
 abbrev pub entryOf : ℕ → Ticket → Entry
 entryOf game t =
-    record { terms = termsOf (t .operands); marks = t .operands .marks; paid = paidStakes game (game + 1) t }
+    record {
+      terms = termsOf (t .operands);
+      marks = t .operands .marks;
+      paid = paidStakes game (game + 1) t;
+      feature = featureStake (t .operands .feature);
+    }
 
 -- "Keno To Go begun": 50 games or more as sold, and the first of them has a ball in, or is past
 unfoldable pub kenoToGoBegun : ℕ → Bool → Ticket → Bool

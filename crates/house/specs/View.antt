@@ -9,7 +9,9 @@ use lib.ListN.{length, take, drop, getD}
 use lib.Seq.{sets}
 use Rattle.sale.specs.Lists.{below}
 use Rattle.sale.specs.Price.{chargeLimit}
-use Rattle.house.specs.Tickets.{Ticket, isFinished, paidStakes}
+use Rattle.sale.specs.declared.terms.Feature.{Feature}
+use Rattle.sale.specs.declared.terms.Feature.the-variants.{Absent, LuckyLast}
+use Rattle.house.specs.Tickets.{Ticket, isFinished, ticketPrice, paidStakes}
 use Rattle.house.specs.Model.{Model, gameLimit}
 use Rattle.house.specs.declared.state.House.{House}
 use Rattle.house.specs.declared.rows.Row.{Row}
@@ -33,6 +35,7 @@ rowOf words at =
       due = getD words (at + 12) 0;
       finished = getD words (at + 13) 0;
       sizes = getD words (at + 14) 0;
+      feature = getD words (at + 15) 0;
     }
 
 -- the row at a place of the buffer, of 16 words each
@@ -42,7 +45,7 @@ rowAt words i = rowOf words (i * 16)
 unfoldable pub putRow : List ℕ → ℕ → Row → List ℕ
 putRow words at w =
     sets words at
-    (w .number ∷ w .kind ∷ w .games ∷ w .stake ∷ w .groups ∷ w .types ∷ w .ways ∷ w .jackpot ∷ w .sold ∷ w .first ∷ w .stop ∷ w .free ∷ w .due ∷ w .finished ∷ w .sizes ∷ [])
+    (w .number ∷ w .kind ∷ w .games ∷ w .stake ∷ w .groups ∷ w .types ∷ w .ways ∷ w .jackpot ∷ w .sold ∷ w .first ∷ w .stop ∷ w .free ∷ w .due ∷ w .finished ∷ w .sizes ∷ w .feature ∷ [])
 
 -- the 80 marks of the ticket at a place
 unfoldable pub marksAt : List ℕ → ℕ → List ℕ
@@ -51,12 +54,16 @@ marksAt marks i = take 80 (drop (i * 80) marks)
 unfoldable pub putMarks : List ℕ → ℕ → List ℕ → List ℕ
 putMarks marks i these = take (i * 80) marks ++ these ++ drop (i * 80 + 80) marks
 
+-- a feature stake in a row: 0 is none
+abbrev pub featureFrom : ℕ → Feature
+featureFrom stake = cond (eqb stake 0) Absent (LuckyLast stake)
+
 -- a row and its marks as a ticket
 abbrev pub ticketFrom : Row → List ℕ → Ticket
 ticketFrom w marks =
     record {
       number = w .number;
-      operands = record { kind = w .kind; games = w .games; stake = w .stake; groups = w .groups; types = w .types; marks = marks };
+      operands = record { kind = w .kind; games = w .games; stake = w .stake; groups = w .groups; types = w .types; feature = featureFrom (w .feature); marks = marks };
       ways = w .ways;
       jackpot = w .jackpot;
       sizes = w .sizes;
@@ -108,9 +115,9 @@ pub record RisingRows (words : List ℕ) (live : ℕ) : Type 0 where
   pub few : live ≤ 200
   pub rising : (j k : ℕ) → j < k → k < live → getD words (j * 16) 0 < getD words (k * 16) 0
 
--- a row whose stakes of one game are within the most that a ticket can cost
+-- a row whose price of one game is within the most that a ticket can cost
 pub record Affordable (w : Row) : Type 0 where
-  pub within : w .stake * w .ways ≤ chargeLimit
+  pub within : ticketPrice (ticketFrom w []) ≤ chargeLimit
 
 -- the same of the paid stakes of the games from one up to another
 pub record PaidWithin (from upto : ℕ) (w : Row) : Type 0 where

@@ -43,6 +43,7 @@ pub struct Row {
     pub due: u64,
     pub finished: u64,
     pub sizes: u64,
+    pub feature: u64,
 }
 
 // The row at a place.
@@ -67,6 +68,7 @@ pub fn read_row(rows: &[u64; 3200], i: usize) -> Row
         due: rows[at + 12],
         finished: rows[at + 13],
         sizes: rows[at + 14],
+        feature: rows[at + 15],
     }
 }
 
@@ -79,13 +81,13 @@ pub fn finishing_day(rows: &[u64; 3200], i: usize) -> u64
     rows[at + 13]
 }
 
-// Fifteen words from a place on.
+// Sixteen words from a place on.
 fn put_words(rows: &mut [u64; 3200], at: usize, words: &[u64])
-    requires { ⌜ (at ≤ 3185) × (length (now words) ≡ 15) ⌝ }
+    requires { ⌜ (at ≤ 3184) × (length (now words) ≡ 16) ⌝ }
     ensures { λ r. ⌜ now (rows .exit) ≡ sets (now (rows .entry)) at (now (words .entry)) ⌝ }
 {
     let mut k = 0;
-    while k < 15 {
+    while k < 16 {
         rows[at + k] = words[k];
         k += 1;
     }
@@ -112,6 +114,7 @@ pub(crate) fn write_row(rows: &mut [u64; 3200], i: usize, row: Row)
         row.due,
         row.finished,
         row.sizes,
+        row.feature,
     ];
     put_words(rows, i * 16, &words);
 }

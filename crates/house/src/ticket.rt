@@ -6,7 +6,7 @@ ghost use mathlib.Core.Bool.{cond, not};
 ghost use mathlib.Core.List.{List};
 ghost use Prim.Native.Nat.{ℕ, _+_, max};
 ghost use Rattle.calendar.specs.Bounds.{ExpiryBound};
-ghost use Rattle.house.specs.Tickets.{runsIn, isFinished, isLive, paidStakes, heldFor, kenoToGoBegun};
+ghost use Rattle.house.specs.Tickets.{runsIn, isFinished, isLive, ticketPrice, paidStakes, heldFor, kenoToGoBegun};
 ghost use Rattle.house.specs.Model.{Model};
 ghost use Rattle.house.specs.Commands.{finishedOn, isExpired};
 ghost use Rattle.house.specs.View.{ticketFrom, ticketIn, IsRow, Affordable, PaidWithin, DayTells};
@@ -87,6 +87,14 @@ pub fn finished_on(day: u64, game: u64, mut row: Row) -> Row
     row
 }
 
+// What the ticket pays for a game: the stakes of its ways and its feature stake.
+fn game_price(row: Row) -> u64
+    requires { ⌜ Affordable row ⌝ }
+    ensures { λ r. ⌜ ((marks : List ℕ) → r ≡ ticketPrice (ticketFrom row marks)) ⌝ }
+{
+    row.stake * row.ways + row.feature
+}
+
 // The paid stakes of the games from one up to another: those before the first free one.
 pub fn paid_stakes(from: u64, upto: u64, row: Row) -> u64
     requires { ⌜ PaidWithin from upto row ⌝ }
@@ -99,9 +107,9 @@ pub fn paid_stakes(from: u64, upto: u64, row: Row) -> u64
         return 0;
     }
     if row.free <= upto {
-        return row.stake * row.ways * (row.free - from);
+        return game_price(row) * (row.free - from);
     }
-    row.stake * row.ways * (upto - from)
+    game_price(row) * (upto - from)
 }
 
 // The paid stakes of the games that are left.
@@ -126,5 +134,5 @@ pub fn paid_for(game: u64, row: Row) -> u64
     if !runs_in(game, row) {
         return 0;
     }
-    row.stake * row.ways
+    game_price(row)
 }

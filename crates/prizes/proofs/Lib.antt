@@ -11,4 +11,6 @@ pub mod CutFloors
 pub mod MajorLaws
 pub mod FoundLaws
 pub mod ShareLaws
+pub mod LuckyLastLaws
+pub mod FeatureBeside
 pub mod SettleLaws

@@ -14,12 +14,14 @@ use Rattle.sale.specs.Ways.{sizes, ways}
 use Rattle.prizes.specs.Prize.{majorFloor, isMajor}
 use Rattle.prizes.specs.Cut.{majorsLimit, payout}
 use Rattle.prizes.specs.Jackpots.{guaranteeOfSix, guaranteeOfEight, pooled, contribution, contributed, jackpotWon, jackpotShares, seedOf, reseeded, repaidOf, repaid}
-use Rattle.prizes.specs.Settle.{Entry, prizesBy, wayPrizes, winnerOf, paidFor, majorsOf, prizesOf, settleJackpot, settle}
+use Rattle.prizes.specs.Settle.{Entry, prizesBy, wayPrizes, winnerOf, paidFor, majorsOf, prizesOf, allPrizesOf, settleJackpot, settle}
+use Rattle.prizes.specs.Bounds.{featureLimit}
 use Rattle.sale.specs.Kinds.{jackpotBy}
 use Rattle.prizes.specs.declared.draw.Draw.{Draw}
 use Rattle.prizes.specs.declared.jackpot.Jackpot.{Jackpot}
 use Rattle.prizes.proofs.CutPayouts.{payout-minor}
 use Rattle.sale.proofs.KeepLaws.{sum-within}
+use Rattle.prizes.proofs.LuckyLastLaws.{feature-within}
 use Rattle.prizes.proofs.ShareLaws.{won-shares, no-shares, length-shares}
 
 -- lists of one length added by element
@@ -155,7 +157,7 @@ paid-within (e ∷ es) = omega (arith, one-jackpot (jackpotBy (e .terms) (sizes 
 -- the whole game
 module _ (draw : Draw) (six eight : Jackpot) (es : List Entry) where
   abbrev prizes : List ℕ
-  prizes = map (prizesOf (majorsOf draw es) draw) es
+  prizes = map (allPrizesOf (majorsOf draw es) draw) es
 
   abbrev sharesOfSix : List ℕ
   sharesOfSix = settleJackpot 6 guaranteeOfSix draw six es .shares
@@ -176,7 +178,7 @@ module _ (draw : Draw) (six eight : Jackpot) (es : List Entry) where
   shares-count = length-added sharesOfSix sharesOfEight shares-alike ∙ eight-count
 
   prizes-alike : length prizes ≡ length (zipWith _+_ sharesOfSix sharesOfEight)
-  prizes-alike = omega (arith, length-map es (prizesOf (majorsOf draw es) draw), shares-count)
+  prizes-alike = omega (arith, length-map es (allPrizesOf (majorsOf draw es) draw), shares-count)
 
   -- an award for each entry
   pub awards-count : length (settle draw six eight es .awards) ≡ length es
@@ -316,11 +318,20 @@ module _ (cut-within : (ps : List ℕ) (p : ℕ) → member p ps ≡ true → ma
       prizesOf (majorsOf draw es) draw e ≤ length (ways (e .terms .groups) (e .terms .types)) * majorsLimit
   entry-within draw es e among = prizes-of-within (majorsOf draw es) draw e majorsLimit (way-within draw es e among)
 
-  -- and the game's within that of each entry, of which none has more than so many ways
-  pub prizes-within : (draw : Draw) (six eight : Jackpot) (es : List Entry) (most : ℕ) →
+  -- and the game's within that of each entry, of which none has more than so many ways, or a feature stake above so much
+  pub prizes-within : (draw : Draw) (six eight : Jackpot) (es : List Entry) (most stake : ℕ) →
       ((e : Entry) → List·Memᴰ e es → length (ways (e .terms .groups) (e .terms .types)) ≤ most) →
-      settle draw six eight es .prizes ≤ length es * (most * majorsLimit)
-  unfolding settle
-  prizes-within draw six eight es most few =
-      sum-within (prizesOf (majorsOf draw es) draw) (most * majorsLimit) es
-      (λ e among. le-trans (entry-within draw es e among) (mul-le-mul-right majorsLimit (few e among)))
+      ((e : Entry) → List·Memᴰ e es → e .feature ≤ stake) →
+      settle draw six eight es .prizes ≤ length es * (most * majorsLimit + featureLimit stake)
+  unfolding settle allPrizesOf
+  prizes-within draw six eight es most stake few small =
+      sum-within (allPrizesOf (majorsOf draw es) draw) (most * majorsLimit + featureLimit stake) es each
+    where
+      each : (e : Entry) → List·Memᴰ e es → allPrizesOf (majorsOf draw es) draw e ≤ most * majorsLimit + featureLimit stake
+      each e among =
+          omega (
+            arith,
+            le-trans (entry-within draw es e among) (mul-le-mul-right majorsLimit (few e among)),
+            feature-within draw (e .marks) (e .feature),
+            small e among,
+          )

@@ -1,7 +1,11 @@
 -- The bounds that some parts of prizes and jackpots ask of their callers, so that no sum or product passes 64 bits. Every sale (`Playable`) and
 -- the laws on reached houses give them.
-use Prim.Native.Nat.{ℕ, _*_, _≤_, _<_, _^_}
+use Prim.Native.Nat.{ℕ, _+_, _*_, _≤_, _<_, _^_}
+use mathlib.Core.Path.{_≡_}
+use mathlib.Core.List.{List}
+use Rattle.sale.specs.Ways.{sizes, sizeWord}
 use Rattle.sale.specs.Price.{chargeLimit}
+use Rattle.sale.specs.Bounds.{Marked, Grouping}
 use Rattle.prizes.specs.Prize.{majorFloor}
 use Rattle.prizes.specs.Cut.{majorsLimit}
 use Rattle.prizes.specs.declared.cut.Cut.{Cut}
@@ -52,6 +56,20 @@ pub record Seeding (j : Jackpot) (guarantee : ℕ) : Type 0 where
   pub room : Roomy j
   pub limit : guarantee < 2 ^ 63
 
--- the most that a ticket's prizes of one game are together, jackpot shares aside: so much for each of 255 ways
+-- a ticket's marks, and the word in which its row keeps the sizes of its groups
+pub record KeptSizes (word : ℕ) (marks : List ℕ) : Type 0 where
+  pub few : Marked marks
+  pub groups : Grouping marks
+  pub same : word ≡ sizeWord (sizes marks)
+
+-- the most that the prizes of a ticket's ways are together in one game, jackpot shares aside: so much for each of 255 ways
+abbrev pub wayPrizesLimit : ℕ
+wayPrizesLimit = 255 * majorsLimit
+
+-- the most that Lucky Last pays for a stake: 60 dollars for each dollar
+abbrev pub featureLimit : ℕ → ℕ
+featureLimit stake = 60 * stake
+
+-- the most that all prizes of a ticket are together in one game, jackpot shares aside
 abbrev pub ticketPrizesLimit : ℕ
-ticketPrizesLimit = 255 * majorsLimit
+ticketPrizesLimit = wayPrizesLimit + featureLimit chargeLimit

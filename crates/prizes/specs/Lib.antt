@@ -4,6 +4,7 @@ pub mod ScheduleTable
 pub mod Prize
 pub mod Cut
 pub mod Jackpots
+pub mod LuckyLast
 pub mod Settle
 pub mod Found
 pub mod Rounds

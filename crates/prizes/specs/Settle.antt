@@ -1,6 +1,6 @@
 -- "At the twentieth ball, in this order: contributions; prizes and cuts; each full match shares the primary [..]. If there was a winner: the
 -- secondary moves into the primary, and the house adds a seed [..]. Last, reimbursement pays the house [..]": one game, from the tickets that run in
--- it to what each of them is due.
+-- it to what each of them is due. And of Lucky Last: "Feature prizes are neither capped, major nor cut".
 use Prim.Native.Nat.{ℕ, _+_}
 use mathlib.Core.Bool.{Bool, cond}
 use mathlib.Core.List.{List, [], _∷_, _++_, map, zipWith}
@@ -12,16 +12,19 @@ use Rattle.sale.specs.Ways.{sizes, ways, maskSum}
 use Rattle.prizes.specs.Hits.{hits}
 use Rattle.prizes.specs.Prize.{prize, isMajor}
 use Rattle.prizes.specs.Cut.{payout}
+use Rattle.prizes.specs.LuckyLast.{luckyLastPrize}
 use Rattle.prizes.specs.Jackpots.{guaranteeOfSix, guaranteeOfEight, contribution, contributed, Winner, jackpotWon, jackpotShares, seedOf, reseeded, repaidOf, repaid}
 use Rattle.prizes.specs.declared.draw.Draw.{Draw}
 use Rattle.sale.specs.declared.terms.Terms.{Terms}
 use Rattle.prizes.specs.declared.jackpot.Jackpot.{Jackpot}
 
--- a ticket that runs in the game, with its paid stakes for it: 0 for a free game
+-- a ticket that runs in the game, with its paid stakes for it, which are 0 for a free game, and the feature stake that it plays for, free game or not: 0
+-- where it has no feature
 pub record Entry : Type 0 where
   pub terms : Terms
   pub marks : List ℕ
   pub paid : ℕ
+  pub feature : ℕ
 
 -- the prize of each way, before any cut, from the sizes and hits of the groups
 unfoldable pub prizesBy : Terms → List ℕ → List ℕ → List ℕ
@@ -56,6 +59,10 @@ majorsOf draw (e ∷ es) = keep isMajor (wayPrizes draw e) ++ majorsOf draw es
 -- a ticket's prizes as cut, each way by itself
 unfoldable pub prizesOf : List ℕ → Draw → Entry → ℕ
 prizesOf majors draw e = sum (map (payout majors) (wayPrizes draw e))
+
+-- and its feature prize beside them, whole
+unfoldable pub allPrizesOf : List ℕ → Draw → Entry → ℕ
+allPrizesOf majors draw e = prizesOf majors draw e + luckyLastPrize draw (e .marks) (e .feature)
 
 -- one jackpot's part of a game
 pub record JackpotResult : Type 0 where
@@ -93,7 +100,7 @@ pub record Settled : Type 0 where
 unfoldable pub settle : Draw → Jackpot → Jackpot → List Entry → Settled
 settle draw six eight es =
     let majors = majorsOf draw es in
-    let prizes = map (prizesOf majors draw) es in
+    let prizes = map (allPrizesOf majors draw) es in
     let s = settleJackpot 6 guaranteeOfSix draw six es in
     let e = settleJackpot 8 guaranteeOfEight draw eight es in
     record {

@@ -2,9 +2,10 @@
 ghost use mathlib.Core.Path.{_≡_};
 ghost use Rattle.prizes.specs.Hits.{drawOf};
 
-// The numbers drawn in a game, in the order of the draw.
+// The numbers drawn in a game, in the order of the draw, and the one of them that came last.
 pub struct Draw {
     pub balls: [u8; 20],
+    pub last: u8,
 }
 
 impl Draw {
@@ -12,6 +13,7 @@ impl Draw {
     pub fn of(balls: [u8; 20]) -> Draw
         ensures { λ r. ⌜ r ≡ drawOf balls ⌝ }
     {
-        Draw { balls }
+        let last = balls[19];
+        Draw { balls, last }
     }
 }

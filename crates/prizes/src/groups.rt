@@ -22,7 +22,7 @@ const UNITS: [u64; 9] = [
 ];
 
 // The mark of a number, 0 for one that is not on the ticket.
-fn mark_of(marks: &[u8], number: u8) -> u8
+pub(crate) fn mark_of(marks: &[u8], number: u8) -> u8
     ensures { λ r. ⌜ r ≡ markOf (now (marks .entry)) number ⌝ }
 {
     let n = number as usize;

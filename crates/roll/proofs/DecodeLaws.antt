@@ -4,21 +4,21 @@ use Prim.Native.Nat.{ℕ, suc, _+_, _-_, _≤_, _<_}
 use native.Mathlib.Numerals.{add-one}
 use native.Mathlib.Omega.{arith}
 use mathlib.Core.Path.{_≡_, refl, sym, ap, subst, _∙_}
-use mathlib.Core.Bool.{Bool, true, false, cond}
+use mathlib.Core.Bool.{Bool, true, false, cond, _||_}
 use mathlib.Core.List.{List, [], _∷_, map}
-use lib.Dec.{ltb, eqb}
+use lib.Dec.{ltb, leb, eqb}
 use lib.ListN.{length, getD, take, drop, length-drop}
 use lib.Seq.{drop-cons, drop-drop}
 use borrow.Author.Tests.{ltb-false, lt-ltb, le-ltb, ne-eqb, eqb-true}
 use Rattle.numbers.specs.Bytes.{numberOf}
 use Rattle.numbers.proofs.ByteLaws.{part-of-first, byte-of-part, two-bytes-below}
+use Rattle.sale.specs.declared.terms.Feature.{Feature}
 use Rattle.house.specs.Commands.{open′}
 use Rattle.house.proofs.Ledger.{All}
 use Rattle.house.proofs.EachCommand.{ShortDay}
-use Rattle.commands.specs.Meant.{meant}
 use Rattle.commands.specs.declared.command.Command.{Command}
 use Rattle.roll.specs.Decode.{CommandRow, commandRows, CommandByte, unknown, known, rowAmong, commandRow, saleIn, commandOf, byteOf}
-use Rattle.roll.specs.Orders.{operandsBy, operandLength, operandBytes, decodedBy, lentMarks, decodedAt}
+use Rattle.roll.specs.Orders.{operandsBy, operandLength, operandBytes, decodedBy, CommandSize, decodedAt}
 use Rattle.roll.specs.declared.decode.Decoded.the-variants.{Whole, Stop}
 use Rattle.roll.specs.declared.decode.OperandLength.the-variants.{Bytes, Unknown}
 
@@ -74,8 +74,8 @@ Small l = (i : ℕ) → getD l i 0 < 256
 
 -- what is shown of a row
 record RowHolds (row : CommandRow) : Type 0 where
-  -- a decoded command, with Sell's marks beside it, is the command that the bytes stand for
-  means : (bytes : List ℕ) → meant (row .decoded bytes) (lentMarks (row .byte) bytes) ≡ commandOf row bytes
+  -- a command has marks or ends before them
+  apart : CommandSize (row .operands + 1)
   -- the command's byte is the row's
   back : (bytes : List ℕ) → byteOf (commandOf row bytes) ≡ row .byte
   -- if it has a day, the day has two bytes
@@ -84,13 +84,13 @@ record RowHolds (row : CommandRow) : Type 0 where
 -- a row whose command is not Open
 plain-row :
     (row : CommandRow)
-    → ((bytes : List ℕ) → meant (row .decoded bytes) (lentMarks (row .byte) bytes) ≡ commandOf row bytes)
+    → (leb (row .operands + 1) 9 || leb 89 (row .operands + 1)) ≡ true
     → ((bytes : List ℕ) → byteOf (commandOf row bytes) ≡ row .byte)
     → (row .byte ≡ 1 → ⊥)
     → RowHolds row
-plain-row row means back other =
+plain-row row apart back other =
     record {
-      means = means;
+      apart = record { apart = apart };
       back = back;
       short = λ rest small d e. absurd (other (sym (back (take (row .operands) rest)) ∙ ap byteOf e));
     }
@@ -109,22 +109,18 @@ this and later = (this, later)
 rows-hold : All RowHolds commandRows
 unfolding commandRows
 rows-hold =
-    record { means = λ _. refl; back = λ _. refl; short = two-byte-day }
-    and plain-row _ (λ _. refl) (λ _. refl) (omega arith)
-    and plain-row _ (λ _. refl) (λ _. refl) (omega arith)
-    and plain-row _ (λ _. refl) (λ _. refl) (omega arith)
-    and plain-row _ (λ _. refl) (λ _. refl) (omega arith)
-    and plain-row _ (λ _. refl) (λ _. refl) (omega arith)
-    and plain-row _ (λ _. refl) (λ _. refl) (omega arith)
+    record { apart = record { apart = refl }; back = λ _. refl; short = two-byte-day }
+    and plain-row _ refl (λ _. refl) (omega arith)
+    and plain-row _ refl (λ _. refl) (omega arith)
+    and plain-row _ refl (λ _. refl) (omega arith)
+    and plain-row _ refl (λ _. refl) (omega arith)
+    and plain-row _ refl (λ _. refl) (omega arith)
+    and plain-row _ refl (λ _. refl) (omega arith)
+    and plain-row _ refl (λ _. refl) (omega arith)
     and tt
 
 row-found : (byte : ℕ) (row : CommandRow) → commandRow byte ≡ known row → (row .byte ≡ byte) × RowHolds row
 row-found = found RowHolds commandRows rows-hold
-
-pub order-meant : (byte : ℕ) (row : CommandRow) (bytes : List ℕ) → commandRow byte ≡ known row → meant (row .decoded bytes) (lentMarks byte bytes) ≡ commandOf row bytes
-order-meant byte row bytes e =
-    let here = row-found byte row e in
-    ap (λ b. meant (row .decoded bytes) (lentMarks b bytes)) (sym (here .0)) ∙ here .1 .means bytes
 
 pub byte-back : (byte : ℕ) (row : CommandRow) (bytes : List ℕ) → commandRow byte ≡ known row → byteOf (commandOf row bytes) ≡ byte
 byte-back byte row bytes e =
@@ -134,25 +130,26 @@ byte-back byte row bytes e =
 pub short-day : (byte : ℕ) (row : CommandRow) (rest : List ℕ) → commandRow byte ≡ known row → Small rest → ShortDay (commandOf row (take (row .operands) rest))
 short-day byte row rest e small = row-found byte row e .1 .short rest small
 
--- ---- Sell's operands
+-- ---- a sale's operands
 
--- Sell's operands up to the marks, from where they start in a list
+-- A sale's operands up to the marks, from where they start in a list; of the bytes that belong to the sale the first eight are read.
 pub sale-in :
-    (l : List ℕ) (at stake : ℕ)
+    (n : ℕ) → 8 ≤ n → (feature : Feature) (l : List ℕ) (at stake : ℕ)
     → stake ≡ numberOf (take 4 (drop (at + 2) l))
-    → record { kind = getD l at 0; games = getD l (at + 1) 0; stake = stake; groups = getD l (at + 6) 0; types = getD l (at + 7) 0 }
-    ≡ saleIn (take 88 (drop at l))
-sale-in l at stake same =
+    → record { kind = getD l at 0; games = getD l (at + 1) 0; stake = stake; groups = getD l (at + 6) 0; types = getD l (at + 7) 0; feature = feature }
+    ≡ saleIn feature (take n (drop at l))
+sale-in n room feature l at stake same =
     let here : at ≡ at + 0 = omega arith in
-    let kind = ap (λ k. getD l k 0) here ∙ sym (byte-of-part 88 l at 0 (omega arith)) in
-    let four = same ∙ ap numberOf (sym (part-of-first 2 4 88 (drop at l) (omega arith) ∙ ap (take 4) (drop-drop 2 at l))) in
+    let kind = ap (λ k. getD l k 0) here ∙ sym (byte-of-part n l at 0 (omega arith)) in
+    let four = same ∙ ap numberOf (sym (part-of-first 2 4 n (drop at l) (omega arith) ∙ ap (take 4) (drop-drop 2 at l))) in
     λ i.
     record {
       kind = kind i;
-      games = sym (byte-of-part 88 l at 1 (omega arith)) i;
+      games = sym (byte-of-part n l at 1 (omega arith)) i;
       stake = four i;
-      groups = sym (byte-of-part 88 l at 6 (omega arith)) i;
-      types = sym (byte-of-part 88 l at 7 (omega arith)) i;
+      groups = sym (byte-of-part n l at 6 (omega arith)) i;
+      types = sym (byte-of-part n l at 7 (omega arith)) i;
+      feature = feature;
     }
 
 -- ---- what stands at a place
@@ -220,3 +217,7 @@ stands (byte ∷ rest) order size e = go (commandRow byte) (ltb (length rest) (o
           is = cc;
           long = cc;
         }
+
+-- it has marks, or ends before them
+pub size-apart : {roll : List ℕ} {order : Command} {size : ℕ} → Stands roll order size → CommandSize size
+size-apart s = subst CommandSize (sym (s .long)) (row-found (s .byte) (s .row) (s .has) .1 .apart)

@@ -17,12 +17,12 @@ use Rattle.commands.specs.Meant.{meant}
 use Rattle.house.specs.declared.answer.Answer.{Answer}
 use Rattle.commands.specs.declared.command.Command.{Command}
 use Rattle.numbers.specs.Bytes.{bytesOf}
-use Rattle.roll.specs.Decode.{CommandRow, CommandByte, unknown, known, commandRow, commandOf, recordOf}
+use Rattle.roll.specs.Decode.{marksIn, CommandRow, CommandByte, unknown, known, commandRow, commandOf, recordOf}
 use Rattle.roll.specs.Reading.{Reading, stopped, answered, turnAt, readTurns, readRoll, AllRefused}
-use Rattle.roll.specs.Orders.{operandsBy, operandBytes, decodedBy, lentMarks, decodedAt, verdictOf}
+use Rattle.roll.specs.Orders.{operandsBy, decodedBy, decodedAt, verdictOf}
 use Rattle.roll.specs.declared.decode.Decoded.the-variants.{Whole, Stop}
 use Rattle.roll.specs.declared.reader.Verdict.the-variants.{Accepted, Refused}
-use Rattle.roll.proofs.DecodeLaws.{order-meant, Stands}
+use Rattle.roll.proofs.DecodeLaws.{Stands}
 
 -- ---- one turn
 
@@ -83,10 +83,10 @@ module _ (turns : ℕ) (m : Model) (roll book : List ℕ) (order : Command) (siz
   pub turn-answers :
       (marks : List ℕ)
       → 14 ≤ length book
-      → marks ≡ lentMarks (s .byte) (take (s .row .operands) (s .rest))
+      → marks ≡ marksIn (take (s .row .operands) (s .rest))
       → readTurns (suc turns) m roll book ≡ answeredBy turns m book size (meant order marks) (getD roll 0 0) (drop size roll)
   turn-answers marks room same =
-      let command = sym (ap₂ meant (s .is) same ∙ order-meant (s .byte) (s .row) (take (s .row .operands) (s .rest)) (s .has)) in
+      let command = sym (ap₂ meant (s .is) same) in
       let long : 1 + s .row .operands ≡ size = omega (arith, s .long) in
       let byte = sym (ap (λ l. getD l 0 0) (s .begins)) in
       let later = sym after-command in
@@ -300,19 +300,12 @@ module _ (quiet : Type 0) (whole : Reading) (m : Model) (roll book : List ℕ) (
     pub command-within : read + size ≤ length roll
     command-within = omega (arith, s .long, s .enough, ap length (s .begins), length-drop read roll, a .within)
 
-    command-byte : s .byte ≡ getD roll read 0
-    command-byte = sym (ap (λ l. getD l 0 0) (s .begins)) ∙ first-byte roll read
-
-    pub operands-within : read + 1 + operandBytes (getD roll read 0) ≤ length roll
-    operands-within = omega (arith, command-within, s .long, ap operandsBy (sym (ap commandRow command-byte) ∙ s .has))
-
     -- one more answer, its record written after the others
-    module _ (marks : List ℕ) (room : done + 14 ≤ length book) (same : marks ≡ lentMarks (getD roll read 0) (take (operandBytes (getD roll read 0)) (drop (read + 1) roll))) where
-      lent : marks ≡ lentMarks (s .byte) (take (s .row .operands) (s .rest))
+    module _ (marks : List ℕ) (room : done + 14 ≤ length book) (same : marks ≡ marksIn (take (size - 1) (drop (read + 1) roll))) where
+      lent : marks ≡ marksIn (take (s .row .operands) (s .rest))
       lent =
-          same
-          ∙ ap₂ (λ b l. lentMarks b (take (operandBytes b) l)) (sym command-byte) (sym (drop-drop 1 read roll) ∙ ap (drop 1) (s .begins))
-          ∙ ap (λ looked. lentMarks (s .byte) (take (operandsBy looked) (s .rest))) (s .has)
+          let operands : size - 1 ≡ s .row .operands = omega (arith, s .long) in
+          same ∙ ap₂ (λ n l. marksIn (take n l)) operands (sym (drop-drop 1 read roll) ∙ ap (drop 1) (s .begins))
 
       turn-here : (turns : ℕ) → readTurns (suc turns) m (drop read roll) (drop done book)
           ≡ answeredBy turns m (drop done book) size (meant order marks) (getD roll read 0) (drop size (drop read roll))

@@ -1,14 +1,14 @@
 -- What the decoder answers, and what the reader's parts leave: the definitions that the contracts of this crate's functions cite.
 use Prim.Native.Nat.{ℕ, _+_}
 use mathlib.Core.Path.{_≡_}
-use mathlib.Core.Bool.{cond}
+use mathlib.Core.Bool.{true, cond, _||_}
 use mathlib.Core.List.{List, [], _∷_}
-use lib.Dec.{ltb, eqb}
+use lib.Dec.{ltb, leb, eqb}
 use lib.ListN.{length, take}
 use Rattle.house.specs.declared.answer.Answer.{Answer}
 use Rattle.house.specs.declared.state.House.{House}
 use Rattle.house.specs.View.{view}
-use Rattle.roll.specs.Decode.{marksIn, CommandByte, unknown, known, commandRow}
+use Rattle.roll.specs.Decode.{CommandByte, unknown, known, commandRow}
 use Rattle.roll.specs.Reading.{Reading, readRoll, AllRefused}
 use Rattle.roll.specs.declared.decode.Decoded.{Decoded}
 use Rattle.roll.specs.declared.decode.Decoded.the-variants.{Whole, Stop}
@@ -36,9 +36,10 @@ abbrev pub decodedBy : CommandByte → List ℕ → ℕ → Decoded
 decodedBy unknown rest size = Stop 1
 decodedBy (known row) rest size = Whole (row .decoded (take (row .operands) rest)) size
 
--- what is lent with a command: the marks of a Sell, and nothing with another command, which reads none
-abbrev pub lentMarks : ℕ → List ℕ → List ℕ
-lentMarks byte bytes = cond (eqb byte 2) (marksIn bytes) []
+-- Bytes of a command: a sale's are enough for its marks, and another command ends before marks would begin. So `marksIn` of its operands is what is lent
+-- with any command: the marks of a sale, and nothing with another.
+pub record CommandSize (size : ℕ) : Type 0 where
+  pub apart : (leb size 9 || leb 89 size) ≡ true
 
 -- what stands at the start of a part of a roll
 unfoldable pub decodedAt : List ℕ → Decoded

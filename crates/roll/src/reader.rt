@@ -6,11 +6,12 @@ use commands::command::carry_out;
 use house::answer::Answer;
 use house::state::House;
 ghost use mathlib.Core.Path.{_≡_};
-ghost use Prim.Native.Nat.{_+_, _≤_};
+ghost use Prim.Native.Nat.{_+_, _-_, _≤_};
 ghost use lib.ListN.{length, take, drop};
 ghost use Rattle.house.specs.Balance.{Reached};
 ghost use Rattle.house.specs.View.{view};
-ghost use Rattle.roll.specs.Orders.{operandBytes, lentMarks, stopOf, verdictOf, Reported};
+ghost use Rattle.roll.specs.Decode.{marksIn};
+ghost use Rattle.roll.specs.Orders.{CommandSize, stopOf, verdictOf, Reported};
 
 // The house after a roll, the stop code, the bytes of the answered commands, and how many answers were written.
 #[repr(C)]
@@ -46,16 +47,16 @@ fn stop_code(decoded: Decoded) -> u8
     }
 }
 
-// What is lent with a command whose operands start at a place: the marks of a Sell, from the roll itself. No other command reads any.
-fn marks_of(byte: u8, roll: &[u8], at: usize) -> &[u8]
-    requires { ⌜ at + operandBytes byte ≤ length (now roll) ⌝ }
-    ensures { λ r. ⌜ now r ≡ lentMarks byte (take (operandBytes byte) (drop at (now (roll .entry)))) ⌝ }
+// What is lent with a command of so many bytes that starts at a place: the marks of a sale, from the roll itself. Another command is too short for any.
+fn marks_of(roll: &[u8], at: usize, size: usize) -> &[u8]
+    requires { ⌜ CommandSize size × (at + size ≤ length (now roll)) ⌝ }
+    ensures { λ r. ⌜ now r ≡ marksIn (take (size - 1) (drop (at + 1) (now (roll .entry)))) ⌝ }
 {
-    if byte != 2 {
+    if size < 89 {
         return &roll[at..at];
     }
-    let start = at + 8;
-    let end = at + 88;
+    let start = at + 9;
+    let end = at + 89;
     &roll[start..end]
 }
 
@@ -108,7 +109,7 @@ pub fn read_roll(
             };
         }
         let byte = roll[read];
-        let from = marks_of(byte, roll, read + 1);
+        let from = marks_of(roll, read, size);
         let outcome = carry_out(here, rows, marks, command, from);
         here = outcome.house;
         read += size;

@@ -77,7 +77,7 @@ module _ {A : Type 0} (f : ℕ → A) (types m : ℕ) {left : ℕ} where
 
 -- ---- what cannot be nominated
 
-ones-without : (m : ℕ) → ones (m * 2) ≡ ones m
+pub ones-without : (m : ℕ) → ones (m * 2) ≡ ones m
 unfolding ones
 ones-without m = ap ones (sym (add-zero (m * 2))) ∙ ones-cat 1 m 0 (omega arith) ∙ add-zero (ones m)
 

@@ -6,7 +6,7 @@ use mathlib.Core.List.{List}
 use lib.ListN.{length, drop, getD}
 use Rattle.sale.specs.Ways.{maskSum}
 use Rattle.sale.specs.Price.{chargeLimit}
-use Rattle.sale.specs.Checks.{Operands, wayCount, chargeOf}
+use Rattle.sale.specs.Checks.{Operands, priceOf, chargeOf}
 use Rattle.sale.specs.declared.terms.Terms.{Terms}
 
 -- what every sale gives of a ticket's terms
@@ -59,5 +59,5 @@ pub record Playable (o : Operands) : Type 0 where
   pub eighty : length (o .marks) ≡ 80
   pub marks : Grouping (o .marks)
   pub stake : o .stake ≤ chargeLimit
-  pub oneGame : o .stake * wayCount o ≤ chargeLimit
+  pub oneGame : priceOf o ≤ chargeLimit
   pub charge : chargeOf o ≤ chargeLimit

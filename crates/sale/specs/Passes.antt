@@ -1,6 +1,6 @@
 -- The walk over a ticket's ways as the code takes it, what a sale sees in it, and what the stages of a sale's checks tell. Only contracts speak of
 -- these; the laws in proofs/WalkLaws and proofs/SurveyLaws join the walk to the ways themselves.
-use Prim.Native.Nat.{ℕ, zero, suc, _+_, _*_, _/_, _%_, _^_, _<_, min, max}
+use Prim.Native.Nat.{ℕ, zero, suc, _+_, _*_, _/_, _%_, _^_, _≤_, _<_, min, max}
 use mathlib.Core.Path.{_≡_}
 use mathlib.Core.Bool.{Bool, cond, not, _&&_}
 use mathlib.Core.List.{List, [], _∷_, _++_, map}
@@ -9,12 +9,14 @@ use lib.ListN.{length, getD}
 use lib.Count.{ones}
 use Rattle.sale.specs.Kinds.{kindOf}
 use Rattle.sale.specs.Ways.{sizes, nominated, maskSum, waySizes}
-use Rattle.sale.specs.Checks.{Operands, firstMet, markRows, wayRows}
+use Rattle.sale.specs.Price.{chargeLimit, paidGames}
+use Rattle.sale.specs.Checks.{Operands, firstMet, chargeOf, markRows, wayRows, priceRows}
 use Rattle.sale.specs.Bounds.{Grouped, Bytes}
 use Rattle.sale.specs.declared.terms.Kind.{Kind}
 use Rattle.sale.specs.declared.survey.Survey.{Survey}
 use Rattle.sale.specs.declared.check.MarksCheck.{MarksCheck}
 use Rattle.sale.specs.declared.check.WaysCheck.{WaysCheck}
+use Rattle.sale.specs.declared.check.PriceCheck.{PriceCheck}
 
 -- The ways that begin with the groups in a mask, where so many groups are left to take or to leave. Leaving comes first, so that the masks
 -- rise.
@@ -79,3 +81,14 @@ pub record LookedAt (o : Operands) (k : Kind) (seen : Survey) : Type 0 where
 pub record WaysChecked (o : Operands) (k : Kind) (r : WaysCheck) : Type 0 where
   pub code : r .code ≡ firstMet (wayRows o)
   pub passed : r .code ≡ 0 → LookedAt o k (r .survey)
+
+-- what a price that passes tells
+pub record Priced (o : Operands) (r : PriceCheck) : Type 0 where
+  pub paid : r .paid ≡ paidGames (o .games)
+  pub charge : r .charge ≡ chargeOf o
+  pub within : chargeOf o ≤ chargeLimit
+
+-- 0 or the first refusal of the feature's and the price's rows
+pub record PriceChecked (o : Operands) (r : PriceCheck) : Type 0 where
+  pub code : r .code ≡ firstMet (priceRows o)
+  pub passed : r .code ≡ 0 → Priced o r

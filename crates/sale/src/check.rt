@@ -1,4 +1,4 @@
-// The operand checks of Sell.
+// The operand checks of a sale.
 use crate::marks::group_sizes;
 use crate::marks::size_word;
 use crate::price::CHARGE_LIMIT;
@@ -7,6 +7,7 @@ use crate::price::paid_games;
 use crate::price::stake_fits;
 use crate::survey::Survey;
 use crate::survey::survey_ways;
+use crate::terms::Feature;
 use crate::terms::Kind;
 use crate::terms::Sale;
 ghost use mathlib.Core.Path.{_≡_};
@@ -17,9 +18,9 @@ ghost use lib.Dec.{leb, eqb};
 ghost use lib.ListN.{take};
 ghost use Rattle.sale.specs.Lists.{every};
 ghost use Rattle.sale.specs.Kinds.{kindOf, isSpecialOne};
-ghost use Rattle.sale.specs.Checks.{Operands, operandsOf, firstMet, wayCount, chargeOf, stakeRow, chargeRow, refusedQuote, quoteOf};
-ghost use Rattle.sale.specs.Bounds.{Grouped, Bytes};
-ghost use Rattle.sale.specs.Passes.{MarksPassed, MarksChecked, WaysChecked};
+ghost use Rattle.sale.specs.Checks.{Operands, operandsOf, firstMet, wayCount, chargeOf, featureRow, stakeRow, featureStakeRow, chargeRow, refusedQuote, quoteOf};
+ghost use Rattle.sale.specs.Bounds.{Grouped, Bytes, Counted};
+ghost use Rattle.sale.specs.Passes.{MarksPassed, MarksChecked, WaysChecked, PriceChecked};
 
 // A sale's operands, checked: 0 with the number of ways, the paid games, the charge, the jackpot that they play for and the sizes of the groups
 // in one word, or the refusal's number.
@@ -42,6 +43,13 @@ struct MarksCheck {
 struct WaysCheck {
     code: u8,
     survey: Survey,
+}
+
+// The check of the price: 0 with the paid games and the charge, or the refusal's number.
+struct PriceCheck {
+    code: u8,
+    paid: u8,
+    charge: u64,
 }
 
 // A refusal, which has no figures.
@@ -179,6 +187,19 @@ fn check_ways(sale: Sale, kind: Kind, sizes: [u8; 8]) -> WaysCheck
     WaysCheck { code: 0, survey }
 }
 
+// 31: a feature beside another kind than 0, or beside more than one way.
+fn feature_code(feature: Feature, kind: u8, count: u32) -> u8
+    ensures { λ r. ⌜ ((o : Operands) → feature ≡ o .feature → kind ≡ o .kind → count ≡ wayCount o → r ≡ firstMet (featureRow o ∷ [])) ⌝ }
+{
+    if !feature.is_entered() {
+        return 0;
+    }
+    if kind != 0 {
+        return 31;
+    }
+    if 1 < count { 31 } else { 0 }
+}
+
 // 14: the stake.
 fn stake_code(kind: Kind, count: u32, stake: u32) -> u8
     ensures { λ r. ⌜ ((o : Operands) → kind ≡ kindOf (o .kind) → count ≡ wayCount o → stake ≡ o .stake → r ≡ firstMet (stakeRow o ∷ [])) ⌝ }
@@ -190,6 +211,20 @@ fn stake_code(kind: Kind, count: u32, stake: u32) -> u8
     }
 }
 
+// 32: the feature stake.
+fn feature_stake_code(feature: Feature) -> u8
+    ensures { λ r. ⌜ ((o : Operands) → feature ≡ o .feature → r ≡ firstMet (featureStakeRow o ∷ [])) ⌝ }
+{
+    if !feature.is_entered() {
+        return 0;
+    }
+    let stake = feature.stake();
+    if stake == 0 {
+        return 32;
+    }
+    if stake % 100 == 0 { 0 } else { 32 }
+}
+
 // 15: the charge.
 fn charge_code(charge: u64) -> u8
     ensures { λ r. ⌜ ((o : Operands) → charge ≡ chargeOf o → r ≡ firstMet (chargeRow o ∷ [])) ⌝ }
@@ -197,7 +232,31 @@ fn charge_code(charge: u64) -> u8
     if CHARGE_LIMIT < charge { 15 } else { 0 }
 }
 
-// The checks in the order of their numbers: the first that is not passed refuses the sale.
+// 31, 14, 32 and 15: the feature, whether it goes with the kind and the ways, and the price.
+fn check_price(sale: Sale, kind: Kind, count: u32) -> PriceCheck
+    requires { ⌜ Counted count ⌝ }
+    ensures { λ r. ⌜ ((marks : List ℕ) → kind ≡ kindOf (sale .kind) → count ≡ wayCount (operandsOf sale marks) → PriceChecked (operandsOf sale marks) r) ⌝ }
+{
+    let feature = sale.feature;
+    let paid = paid_games(sale.games);
+    let charge = charge_of(sale.stake, count, feature.stake(), paid);
+    let code = feature_code(feature, sale.kind, count);
+    if code != 0 {
+        return PriceCheck { code, paid, charge };
+    }
+    let code = stake_code(kind, count, sale.stake);
+    if code != 0 {
+        return PriceCheck { code, paid, charge };
+    }
+    let code = feature_stake_code(feature);
+    if code != 0 {
+        return PriceCheck { code, paid, charge };
+    }
+    let code = charge_code(charge);
+    PriceCheck { code, paid, charge }
+}
+
+// The checks in the order of the table: the first that is not passed refuses the sale.
 pub fn quote_for(sale: Sale, marks: &[u8]) -> Quote
     ensures { λ r. ⌜ r ≡ quoteOf (operandsOf sale (now (marks .entry))) ⌝ }
 {
@@ -215,21 +274,16 @@ pub fn quote_for(sale: Sale, marks: &[u8]) -> Quote
     }
     let survey = looked.survey;
     let count = survey.count;
-    let code = stake_code(kind, count, sale.stake);
-    if code != 0 {
-        return refused(code);
-    }
-    let paid = paid_games(sale.games);
-    let charge = charge_of(sale.stake, count, paid);
-    let code = charge_code(charge);
+    let price = check_price(sale, kind, count);
+    let code = price.code;
     if code != 0 {
         return refused(code);
     }
     Quote {
         code: 0,
         ways: count,
-        paid,
-        charge: charge as u32,
+        paid: price.paid,
+        charge: price.charge as u32,
         jackpot: survey.jackpot(kind),
         sizes: size_word(sizes),
     }

@@ -1,7 +1,7 @@
 // What a ticket costs: paid games, stakes, charge and refund.
 use crate::terms::Kind;
 ghost use mathlib.Core.Path.{_≡_};
-ghost use Rattle.sale.specs.Price.{paidGames, minimumStake, stakeFits, charge};
+ghost use Rattle.sale.specs.Price.{paidGames, minimumStake, stakeFits, gamePrice, charge};
 ghost use Rattle.sale.specs.Bounds.{Counted};
 
 // The most that a ticket costs, in cents.
@@ -49,10 +49,10 @@ pub fn stake_fits(kind: Kind, count: u32, stake: u32) -> bool
     }
 }
 
-// The stakes of so many paid games.
-pub fn charge_of(stake: u32, count: u32, paid: u8) -> u64
+// The price of so many paid games: the stakes of the ways and the feature stake, for each of them.
+pub fn charge_of(stake: u32, count: u32, feature: u32, paid: u8) -> u64
     requires { ⌜ Counted count ⌝ }
-    ensures { λ r. ⌜ r ≡ charge stake count paid ⌝ }
+    ensures { λ r. ⌜ r ≡ charge (gamePrice stake count feature) paid ⌝ }
 {
-    stake as u64 * count as u64 * paid as u64
+    (stake as u64 * count as u64 + feature as u64) * paid as u64
 }

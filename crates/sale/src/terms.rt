@@ -1,6 +1,7 @@
-// Kinds, schedules, the operands of a sale and the terms of a ticket.
+// Kinds, schedules, features, the operands of a sale and the terms of a ticket.
 ghost use mathlib.Core.Path.{_≡_};
 ghost use Rattle.sale.specs.Kinds.{kindOf, kindNumber, isJackpot, isSpecialOne};
+ghost use Rattle.sale.specs.Checks.{hasFeature, featureStake};
 
 // The schedule that a special entry plays for: rule 18.2 or rule 18.3.
 pub enum Schedule {
@@ -15,13 +16,20 @@ pub enum Kind {
     Special(Schedule),
 }
 
-// Sell's operands as the caller gives them, but for the marks, which stand beside them.
+// What a sale enters beside its ways: nothing, or Lucky Last (rule 21.1 of the Tasmanian rules) with its stake for a game.
+pub enum Feature {
+    Absent,
+    LuckyLast(u32),
+}
+
+// A sale's operands as the caller gives them, but for the marks, which stand beside them.
 pub struct Sale {
     pub kind: u8,
     pub games: u8,
     pub stake: u32,
     pub groups: u8,
     pub types: u8,
+    pub feature: Feature,
 }
 
 // What a ticket plays for. Its 80 marks stand beside it.
@@ -81,6 +89,28 @@ impl Kind {
                 Schedule::One => true,
                 Schedule::Two => false,
             },
+        }
+    }
+}
+
+impl Feature {
+    // Whether the sale enters a feature.
+    pub fn is_entered(self) -> bool
+        ensures { λ r. ⌜ r ≡ hasFeature self ⌝ }
+    {
+        match self {
+            Feature::Absent => false,
+            Feature::LuckyLast(_) => true,
+        }
+    }
+
+    // The feature stake for a game, 0 where no feature is entered.
+    pub fn stake(self) -> u32
+        ensures { λ r. ⌜ r ≡ featureStake self ⌝ }
+    {
+        match self {
+            Feature::Absent => 0,
+            Feature::LuckyLast(stake) => stake,
         }
     }
 }

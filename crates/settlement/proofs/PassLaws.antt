@@ -25,7 +25,7 @@ use Rattle.sale.specs.Bounds.{Sound, Playable}
 use Rattle.house.specs.Tickets.{Ticket, runsIn, termsOf, entryOf}
 use Rattle.house.proofs.Bounded.{terms-sound}
 use Rattle.house.proofs.MoneyLaws.{all-of, map-same}
-use Rattle.settlement.specs.Settling.{spread, entriesOf, prizesAt, matchesAt, prizesIn, fullIn}
+use Rattle.settlement.specs.Settling.{spread, entriesOf, prizesAt, matchesAt, payoutsIn, fullIn}
 use Rattle.settlement.specs.Passing.{allMajors}
 use Rattle.settlement.proofs.SpreadLaws.{spread-entries}
 
@@ -153,8 +153,8 @@ module _ (game : ℕ) (draw : Draw) where
 
   pub paid-spread : (ts : List Ticket)
       → map (λ ps. sum (map (payout (allMajors (map (prizesAt game draw) ts))) ps)) (map (prizesAt game draw) ts)
-      ≡ spread game (prizesIn game draw ts) ts
-  unfolding prizesIn
+      ≡ spread game (payoutsIn game draw ts) ts
+  unfolding payoutsIn
   paid-spread ts =
       map-map (λ ps. sum (map (payout (allMajors (map (prizesAt game draw) ts))) ps)) (prizesAt game draw) ts
       ∙ ap (λ (ms : List ℕ). map (λ t. sum (map (payout ms) (prizesAt game draw t))) ts) (sym (majors-of ts))

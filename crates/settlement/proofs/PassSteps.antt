@@ -19,7 +19,7 @@ use Rattle.prizes.specs.Cut.{majorsLimit, payout}
 use Rattle.sale.specs.Ways.{sizes, sizeOf, sizeWord}
 use Rattle.prizes.specs.Hits.{hits}
 use Rattle.sale.specs.Bounds.{Playable}
-use Rattle.prizes.specs.Bounds.{ticketPrizesLimit}
+use Rattle.prizes.specs.Bounds.{wayPrizesLimit}
 use Rattle.prizes.specs.Found.{groupSizes, groupHits, wordBytes, GroupsOf, FoundWith}
 use Rattle.prizes.specs.Rounds.{payUnder, Pays, Listed, Raisable}
 use Rattle.prizes.specs.Settle.{prizesBy, fullBy}
@@ -37,7 +37,7 @@ use Rattle.house.specs.Tickets.{Ticket, runsIn, termsOf}
 use Rattle.house.specs.Commands.{blankTicket}
 use Rattle.house.specs.Balance.{Reached}
 use Rattle.house.specs.View.{view, ticketFrom, ticketIn}
-use Rattle.settlement.specs.Settling.{Prized, prizesAt, matchesAt}
+use Rattle.settlement.specs.Settling.{PaidOut, prizesAt, matchesAt}
 use Rattle.settlement.specs.Passing.{liveIn, prizesBelow, sureCents, allMajors, Sold, SoldAll, Narrow, FoundAt, FoundAll, Cutting, Raised}
 use Rattle.house.specs.declared.state.House.{House}
 use Rattle.house.specs.declared.rows.Row.{Row}
@@ -342,7 +342,7 @@ module _ (pss : List (List ℕ)) (sure ends majors : List ℕ) (c : Cut) (k : Cu
         ∙ sym (paid-raised all (getD pss i []) own-least)
 
     -- no ticket is paid more than the limit for each way
-    pub paid-small : paidTo i ≤ ticketPrizesLimit
+    pub paid-small : paidTo i ≤ wayPrizesLimit
     paid-small =
         le-trans (sum-within (payout all) majorsLimit (getD pss i []) each) (mul-le-mul-right majorsLimit (k .ways i))
       where
@@ -489,15 +489,15 @@ module _ (h : House) (words marks : List ℕ) (draw : Draw) (sold : SoldAll word
           pays = subst (Pays c) first-prizes pays;
         }
 
-  -- the prizes of the game by the rule
-  pub raised-prized : {paid : List ℕ} → Raised (prizesBelow words marks (h .game) draw (h .live)) paid → Prized (view h words marks) draw paid full
+  -- what the rule pays the ways
+  pub raised-paid : {paid : List ℕ} → Raised (prizesBelow words marks (h .game) draw (h .live)) paid → PaidOut (view h words marks) draw paid full
   unfolding view
-  raised-prized {paid} r =
+  raised-paid {paid} r =
       let live : length (liveIn words marks (h .live)) ≡ h .live = length-table (ticketIn words marks) (h .live) in
       let same : found ≡ map (prizesAt (h .game) draw) (liveIn words marks (h .live)) =
       sym (map-map (prizesAt (h .game) draw) (ticketIn words marks) (below (h .live))) in
       record {
-        prizes =
+        payouts =
             ap (λ n. take n paid) (live ∙ sym found-count) ∙ r
             ∙ ap (λ (l : List (List ℕ)). map (λ ps. sum (map (payout (allMajors l)) ps)) l) same
             ∙ paid-spread (h .game) draw (liveIn words marks (h .live));

@@ -13,7 +13,6 @@ use lib.Seq.{getD-take}
 use borrow.Author.Tests.{ltb-true, ltb-false, lt-ltb}
 use Rattle.sale.specs.Lists.{sum, keep, below}
 use Rattle.sale.specs.Price.{chargeLimit, charge}
-use Rattle.sale.specs.Checks.{wayCount}
 use Rattle.prizes.specs.Bounds.{Roomy, Sharing}
 use Rattle.prizes.specs.Jackpots.{Winner, winningStake, winningStakes, shareOf, oddCents, sharesFrom, jackpotWon, jackpotShares, contribution, contributed, seedOf, reseeded, repaidOf, repaid}
 use Rattle.prizes.proofs.ShareLaws.{wholeShares, winningWays, ticket-within, whole-within, length-shares-from, length-shares}
@@ -24,8 +23,8 @@ use Rattle.prizes.specs.declared.draw.Draw.{Draw}
 use Rattle.prizes.specs.declared.jackpot.Jackpot.{Jackpot}
 use Rattle.sale.proofs.KeepLaws.{length-keep-le}
 use Rattle.sale.proofs.WayLaws.{ways-few}
-use Rattle.house.specs.Tickets.{Ticket, runsIn, paidStakes, entryOf}
-use Rattle.house.specs.View.{rowAt, marksAt, ticketFrom, ticketIn, view}
+use Rattle.house.specs.Tickets.{Ticket, runsIn, ticketPrice, paidStakes, entryOf}
+use Rattle.house.specs.View.{rowAt, marksAt, ticketFrom, ticketIn, Affordable, view}
 use Rattle.house.specs.Balance.{Reached}
 use Rattle.settlement.specs.Settling.{entriesOf, spread, fullIn, guaranteeOf, SharedOut}
 use Rattle.house.specs.declared.state.House.{House}
@@ -37,6 +36,8 @@ use Rattle.house.proofs.Ledger.{Kept}
 use Rattle.house.proofs.ListLaws.{cond-either}
 use Rattle.house.proofs.ViewLaws.{each-live}
 use Rattle.house.proofs.ReachedHouses.{reached-sure}
+use Rattle.house.proofs.SpanLaws.{price-kept}
+use Rattle.settlement.proofs.JoinedTables.{joinedTo, joined-none, joined-place, joined-step, joined-whole}
 use Rattle.settlement.proofs.SpreadLaws.{spread-runs, spread-rests, spread-entries, spread-added, sum-spread}
 use Rattle.house.proofs.MoneyLaws.{sum-snoc}
 use Rattle.house.proofs.RowLists.{length-table, getD-table}
@@ -44,12 +45,12 @@ use Rattle.house.proofs.RowLists.{length-table, getD-table}
 -- ---- one row's paid stakes
 
 module _ (game : ℕ) (t : Ticket) where
-  game-paid-most : t .operands .stake * t .ways ≤ chargeLimit → paidStakes game (game + 1) t ≤ chargeLimit
+  game-paid-most : ticketPrice t ≤ chargeLimit → paidStakes game (game + 1) t ≤ chargeLimit
   unfolding paidStakes charge
   game-paid-most within =
-      let stakes = t .operands .stake * t .ways in
-      let once : stakes * (min (game + 1) (t .free) - min game (t .free)) ≤ stakes * 1 = mul-le-mul-left stakes (omega arith) in
-      omega (arith, once, mul-one stakes)
+      let price = ticketPrice t in
+      let once : price * (min (game + 1) (t .free) - min game (t .free)) ≤ price * 1 = mul-le-mul-left price (omega arith) in
+      omega (arith, once, mul-one price)
 
 none-by : (b : Bool) → cond {A = ℕ} b 0 0 ≡ 0
 none-by true = refl
@@ -74,9 +75,9 @@ module _ (words : List ℕ) (game i : ℕ) where
       asked mine ∙ ap (λ v. cond (runsIn game (ticketFrom v mine)) (paidStakes game (game + 1) (ticketFrom v mine)) 0) read
 
   -- all that the ticket stakes on a game, or nothing
-  pub paid-at-within : ticketIn words [] i .operands .stake * ticketIn words [] i .ways ≤ chargeLimit → paidAt words game i ≤ chargeLimit
+  pub paid-at-within : Affordable (rowAt words i) → paidAt words game i ≤ chargeLimit
   unfolding paidAt
-  paid-at-within within = within-by (runsIn game (ticketIn words [] i)) (game-paid-most game (ticketIn words [] i) within)
+  paid-at-within affordable = within-by (runsIn game (ticketIn words [] i)) (game-paid-most game (ticketIn words [] i) (affordable .within))
 
 -- ---- one row more
 
@@ -280,37 +281,6 @@ module _ (words full : List ℕ) (j i : ℕ) (w : Row) (read : w ≡ rowAt words
 
 -- ---- shares joined to what is paid
 
--- figures joined to the first places of a table
-unfoldable pub joinedTo : List ℕ → List ℕ → List ℕ
-joinedTo [] xs = []
-joinedTo (p ∷ ps) [] = p ∷ ps
-joinedTo (p ∷ ps) (x ∷ xs) = (p + x) ∷ joinedTo ps xs
-
-pub joined-none : (ps : List ℕ) → joinedTo ps [] ≡ ps
-unfolding joinedTo
-joined-none [] = refl
-joined-none (p ∷ ps) = refl
-
--- the next place is as it was
-pub joined-next : (ps xs : List ℕ) → getD (joinedTo ps xs) (length xs) 0 ≡ getD ps (length xs) 0
-unfolding joinedTo
-joined-next [] xs = refl
-joined-next (p ∷ ps) [] = refl
-joined-next (p ∷ ps) (x ∷ xs) = joined-next ps xs
-
-pub joined-more : (ps xs : List ℕ) (x : ℕ) → set (joinedTo ps xs) (length xs) (getD ps (length xs) 0 + x) ≡ joinedTo ps (xs ++ (x ∷ []))
-unfolding joinedTo
-joined-more [] xs x = refl
-joined-more (p ∷ ps) [] x = ap (_∷_ (p + x)) (sym (joined-none ps))
-joined-more (p ∷ ps) (y ∷ xs) x = ap (_∷_ (p + y)) (joined-more ps xs x)
-
-pub joined-all : (ps xs : List ℕ) → take (length xs) (joinedTo ps xs) ≡ zipWith _+_ (take (length xs) ps) xs
-unfolding joinedTo zipWith
-joined-all [] [] = refl
-joined-all [] (x ∷ xs) = refl
-joined-all (p ∷ ps) [] = refl
-joined-all (p ∷ ps) (x ∷ xs) = ap (_∷_ (p + x)) (joined-all ps xs)
-
 -- one winner more gets its share with what the ways before it leave of the odd cents
 pub shares-more : (odd p s : ℕ) (ws : List Winner) (w : Winner)
     → sharesFrom odd p s (ws ++ (w ∷ []))
@@ -335,25 +305,20 @@ module _ (words full : List ℕ) (j odd p s : ℕ) (ps : List ℕ) where
 
   -- what the next ticket is paid is as it was
   pub given-next : (paid : List ℕ) (i : ℕ) → paid ≡ joinedTo ps (given i) → getD paid i 0 ≡ getD ps i 0
-  given-next paid i e =
-      ap (λ l. getD l i 0) e ∙ subst (λ n. getD (joinedTo ps (given i)) n 0 ≡ getD ps n 0) (length-given i) (joined-next ps (given i))
+  given-next paid i e = joined-place ps (given i) e (length-given i)
 
   -- and then its share is joined to it
   pub given-more : (paid : List ℕ) (i share : ℕ) → paid ≡ joinedTo ps (given i)
       → share ≡ winnerAt words full j i .count * shareOf p s (winnerAt words full j i .stake) + min (odd - winningWays (winnersIn words full j i)) (winnerAt words full j i .count)
       → set paid i (getD paid i 0 + share) ≡ joinedTo ps (given (i + 1))
   given-more paid i share e shared =
-      ap (λ n. set paid i (n + share)) (given-next paid i e)
-      ∙ ap (λ l. set l i (getD ps i 0 + share)) e
-      ∙ subst (λ n. set (joinedTo ps (given i)) n (getD ps n 0 + share) ≡ joinedTo ps (given i ++ (share ∷ []))) (length-given i) (joined-more ps (given i) share)
+      joined-step ps (given i) e (length-given i) share
       ∙ ap (λ n. joinedTo ps (given i ++ (n ∷ []))) shared
       ∙ ap (joinedTo ps) (sym (shares-more odd p s (winnersIn words full j i) (winnerAt words full j i)))
       ∙ ap (λ ws. joinedTo ps (sharesFrom odd p s ws)) (sym (winners-more words full j i))
 
   pub given-all : (paid : List ℕ) (live : ℕ) → paid ≡ joinedTo ps (given live) → take live paid ≡ zipWith _+_ (take live ps) (given live)
-  given-all paid live e =
-      ap (take live) e
-      ∙ subst (λ n. take n (joinedTo ps (given live)) ≡ zipWith _+_ (take n ps) (given live)) (length-given live) (joined-all ps (given live))
+  given-all paid live e = joined-whole ps (given live) e (length-given live)
 
 -- ---- the primary, won or not
 
@@ -547,8 +512,7 @@ module _
           few = live-few;
           within = λ i b.
               let kept = kept-at i b in
-              let counted : ticket i .operands .stake * ticket i .ways ≡ ticket i .operands .stake * wayCount (ticket i .operands) = ap (λ n. ticket i .operands .stake * n) (kept .fixed .counted) in
-              omega (arith, counted, kept .fixed .playable .oneGame);
+              record { within = omega (arith, price-kept (ticket i) kept, kept .fixed .playable .oneGame) };
           stakes = λ i b. kept-at i b .fixed .playable .stake;
           ways = full-few;
         }

@@ -1,5 +1,5 @@
--- Laws of tables: a table by its places, the sum of its first figures, and a table whose first places hold figures spread over tickets.
-use Prim.Native.Nat.{ℕ, zero, suc, _+_, _≤_, _<_}
+-- Laws of tables: a table by its places, a ticket's part of the marks, the sum of its first figures, and a table whose first places hold figures spread over tickets.
+use Prim.Native.Nat.{ℕ, zero, suc, _+_, _*_, _-_, _≤_, _<_}
 use mathlib.Core.Path.{_≡_, refl, sym, ap, ap₂, _∙_, subst}
 use mathlib.Core.List.{List, [], _∷_, _++_, map, map-append}
 use native.Mathlib.Nat.{add-zero}
@@ -9,6 +9,7 @@ use lib.ListN.{length, getD, take, drop, length-take, take-append-drop}
 use lib.Seq.{ext-getD, getD-take, take-take, take-suc, length-take-le}
 use Rattle.sale.specs.Lists.{sum, below, keep}
 use Rattle.house.specs.Tickets.{Ticket, runsIn}
+use Rattle.house.specs.View.{marksAt}
 use Rattle.settlement.specs.Settling.{spread}
 use Rattle.house.proofs.MoneyLaws.{sum-append}
 use Rattle.house.proofs.RowLists.{length-table, getD-table}
@@ -37,6 +38,13 @@ table-of l n h =
     (λ i b.
     let small : i < n = omega arith in
     getD-table (λ i. getD l i 0) n i 0 small ∙ sym (getD-take n l i 0 small))
+
+-- the part of all marks that is lent as those of the ticket at a place
+pub marks-part : (marks : List ℕ) (i : ℕ) → take (i * 80 + 80 - i * 80) (drop (i * 80) marks) ≡ marksAt marks i
+unfolding marksAt
+marks-part marks i =
+    let eighty : i * 80 + 80 - i * 80 ≡ 80 = omega arith in
+    ap (λ n. take n (drop (i * 80) marks)) eighty
 
 -- ---- sums of a table's first figures
 

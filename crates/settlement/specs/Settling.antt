@@ -6,7 +6,9 @@ use mathlib.Core.Bool.{cond}
 use mathlib.Core.List.{List, [], _∷_, map, zipWith}
 use lib.ListN.{length, take}
 use Rattle.sale.specs.Lists.{sum, keep}
-use Rattle.prizes.specs.Settle.{Entry, JackpotResult, wayPrizes, majorsOf, prizesOf, fullMatches, settleJackpot}
+use Rattle.sale.specs.Checks.{featureStake}
+use Rattle.prizes.specs.LuckyLast.{luckyLastPrize}
+use Rattle.prizes.specs.Settle.{Entry, JackpotResult, wayPrizes, majorsOf, prizesOf, allPrizesOf, fullMatches, settleJackpot}
 use Rattle.prizes.specs.Jackpots.{guaranteeOfSix, guaranteeOfEight}
 use Rattle.prizes.specs.declared.draw.Draw.{Draw}
 use Rattle.house.specs.Tickets.{Ticket, runsIn, entryOf}
@@ -38,9 +40,17 @@ prizesAt game draw t = cond (runsIn game t) (wayPrizes draw (entryOf game t)) []
 unfoldable pub matchesAt : ℕ → Draw → Ticket → ℕ
 matchesAt game draw t = cond (runsIn game t) (fullMatches draw (entryOf game t)) 0
 
--- the prizes of each entry, as cut
+-- the prizes of each entry's ways, as cut
+unfoldable pub payoutsIn : ℕ → Draw → List Ticket → List ℕ
+payoutsIn game draw ts = map (prizesOf (majorsOf draw (entriesOf game ts)) draw) (entriesOf game ts)
+
+-- the feature prize of a ticket, none for one that does not run
+unfoldable pub featureAt : ℕ → Draw → Ticket → ℕ
+featureAt game draw t = cond (runsIn game t) (luckyLastPrize draw (t .operands .marks) (featureStake (t .operands .feature))) 0
+
+-- all prizes of each entry
 unfoldable pub prizesIn : ℕ → Draw → List Ticket → List ℕ
-prizesIn game draw ts = map (prizesOf (majorsOf draw (entriesOf game ts)) draw) (entriesOf game ts)
+prizesIn game draw ts = map (allPrizesOf (majorsOf draw (entriesOf game ts)) draw) (entriesOf game ts)
 
 -- the full matches of each entry
 unfoldable pub fullIn : ℕ → Draw → List Ticket → List ℕ
@@ -54,7 +64,12 @@ guaranteeOf j = cond (eqb j 6) guaranteeOfSix guaranteeOfEight
 abbrev pub jackpotPart : ℕ → Draw → Jackpot → Model → JackpotResult
 jackpotPart j draw before m = settleJackpot j (guaranteeOf j) draw before (entriesOf (m .game) (m .live))
 
--- the prizes of the game, as the code leaves them in the first `live` places of two tables
+-- the prizes of the ways, as the code leaves them in the first `live` places of a table, and the full matches in another
+pub record PaidOut (m : Model) (draw : Draw) (paid full : List ℕ) : Type 0 where
+  pub payouts : take (length (m .live)) paid ≡ spread (m .game) (payoutsIn (m .game) draw (m .live)) (m .live)
+  pub matches : take (length (m .live)) full ≡ spread (m .game) (fullIn (m .game) draw (m .live)) (m .live)
+
+-- the same once the feature prizes are joined to them
 pub record Prized (m : Model) (draw : Draw) (paid full : List ℕ) : Type 0 where
   pub prizes : take (length (m .live)) paid ≡ spread (m .game) (prizesIn (m .game) draw (m .live)) (m .live)
   pub matches : take (length (m .live)) full ≡ spread (m .game) (fullIn (m .game) draw (m .live)) (m .live)

@@ -1,6 +1,6 @@
 -- The live rows as the code walks over them to find a game's stakes and to share its jackpots: what each row of words says of its ticket, in the
 -- order of the rows. A ticket that does not run in the game has no full match, so that its row has a place here and wins nothing.
-use Prim.Native.Nat.{ℕ, _+_, _*_, _≤_, _<_, _^_}
+use Prim.Native.Nat.{ℕ, _+_, _≤_, _<_, _^_}
 use mathlib.Core.Path.{_≡_}
 use mathlib.Core.Bool.{cond}
 use mathlib.Core.List.{List, [], map}
@@ -10,7 +10,7 @@ use Rattle.sale.specs.Lists.{sum, below}
 use Rattle.sale.specs.Price.{chargeLimit}
 use Rattle.prizes.specs.Jackpots.{Winner, winningStakes}
 use Rattle.house.specs.Tickets.{runsIn, paidStakes}
-use Rattle.house.specs.View.{rowAt, ticketIn}
+use Rattle.house.specs.View.{rowAt, ticketIn, Affordable}
 use Rattle.house.specs.declared.rows.Row.{Row}
 use Rattle.settlement.specs.declared.figures.Stakes.{Stakes}
 use Rattle.settlement.specs.declared.figures.GameFigures.{GameFigures}
@@ -51,10 +51,10 @@ abbrev pub figuresOf : List ℕ → List ℕ → List ℕ → ℕ → ℕ → Ga
 figuresOf words paid full game live =
     record { prizes = sum (take live paid); stakes = paidIn words game live; six = stakesOf words full game 6 live; eight = stakesOf words full game 8 live }
 
--- rows whose stakes are within the most that a ticket can cost, with at most 255 full matches each
+-- rows whose price of a game is within the most that a ticket can cost, with at most 255 full matches each
 pub record Entered (words full : List ℕ) (live : ℕ) : Type 0 where
   pub few : live ≤ 200
-  pub within : (i : ℕ) → i < live → rowAt words i .stake * rowAt words i .ways ≤ chargeLimit
+  pub within : (i : ℕ) → i < live → Affordable (rowAt words i)
   pub stakes : (i : ℕ) → i < live → rowAt words i .stake ≤ chargeLimit
   pub ways : (i : ℕ) → i < live → getD full i 0 ≤ 255
 

@@ -1,4 +1,4 @@
-// The prizes of a drawn game: each ticket's, as cut, and its full matches. One pass over the ways of all tickets finds what is sure of each prize, of
+// The prizes of the ways in a drawn game: each ticket's, as cut, and its full matches. One pass over the ways of all tickets finds what is sure of each prize, of
 // a major one the floor, and lists the major prizes. Where they are fewer than 250, the cut goes over that list and each is raised to what it
 // is paid; of 250 or more each is paid the floor.
 use house::rows;
@@ -21,13 +21,12 @@ ghost use mathlib.Core.Path.{_≡_};
 ghost use mathlib.Core.List.{List, []};
 ghost use Prim.Native.Nat.{ℕ};
 ghost use lib.ListN.{length};
-ghost use Rattle.prizes.specs.Found.{Counting, GroupsOf};
+ghost use Rattle.prizes.specs.Found.{Counting};
 ghost use Rattle.prizes.specs.ScheduleTable.{Schedules};
-ghost use Rattle.sale.specs.Bounds.{Grouping};
 ghost use Rattle.house.specs.Tickets.{termsOf};
 ghost use Rattle.house.specs.Balance.{Reached};
 ghost use Rattle.house.specs.View.{view, marksAt, ticketFrom, ticketIn};
-ghost use Rattle.settlement.specs.Settling.{Prized};
+ghost use Rattle.settlement.specs.Settling.{PaidOut};
 ghost use Rattle.settlement.specs.Passing.{Inside, SoldAt, SoldAll, Narrow, FoundAt, FoundAll, Cutting, CutOf, Raised};
 
 // A table is as long as its type says: learnt by lending it as a slice.
@@ -53,15 +52,14 @@ fn row_terms(row: Row) -> Terms
     }
 }
 
-// The groups of the ticket at a place, whose marks are a part of those that are lent.
-fn ticket_groups(marks: &[u8], i: usize, word: u64, draw: Draw) -> [u32; 9]
-    requires { ⌜ Inside (now marks) i × Grouping (marksAt (now marks) i) ⌝ }
-    ensures { λ r. ⌜ GroupsOf word draw (marksAt (now (marks .entry)) i) r ⌝ }
+// The marks of the ticket at a place, a part of those that are lent.
+pub(crate) fn own_marks(marks: &[u8], i: usize) -> &[u8]
+    requires { ⌜ Inside (now marks) i ⌝ }
+    ensures { λ r. ⌜ now r ≡ marksAt (now (marks .entry)) i ⌝ }
 {
     let from = i * 80;
     let end = from + 80;
-    let own = &marks[from..end];
-    group_table(word, draw, own)
+    &marks[from..end]
 }
 
 // What the ways of the ticket at a place win: nothing where it does not run in the game.
@@ -87,7 +85,7 @@ fn find_ticket(
         };
     }
     rows::known_marks(marks);
-    let groups = ticket_groups(marks, i, row.sizes, draw);
+    let groups = group_table(row.sizes, draw, own_marks(marks, i));
     found::ticket_prizes(row_terms(row), &groups, schedules, before, majors)
 }
 
@@ -140,7 +138,7 @@ fn raise_all(live: usize, ends: &[u64; 200], majors: &[u64; 250], cut: Cut, paid
 }
 
 // Fills the first places of `paid` and `full`, one for each live ticket. Where there is none, no table is made.
-pub(crate) fn find_prizes(
+pub(crate) fn find_payouts(
     house: House,
     rows: &[u64; 3200],
     marks: &[u8; 16000],
@@ -149,7 +147,7 @@ pub(crate) fn find_prizes(
     full: &mut [u64; 200],
 )
     requires { ⌜ Reached (view house (now rows) (now marks)) ⌝ }
-    ensures { λ r. ⌜ Prized (view house (now (rows .entry)) (now (marks .entry))) draw (now (paid .exit)) (now (full .exit)) ⌝ }
+    ensures { λ r. ⌜ PaidOut (view house (now (rows .entry)) (now (marks .entry))) draw (now (paid .exit)) (now (full .exit)) ⌝ }
 {
     let live = house.live as usize;
     if live == 0 {

@@ -1,6 +1,6 @@
-// The settlement of a game by its draw: prizes and cuts, both jackpots, and what each live ticket is awarded.
+// The settlement of a game by its draw: prizes with their cut and feature prizes, both jackpots, and what each live ticket is awarded.
+use crate::features::find_prizes;
 use crate::figures::find_figures;
-use crate::payouts::find_prizes;
 use crate::shares::Part;
 use crate::shares::settle_jackpot;
 use house::state::House;

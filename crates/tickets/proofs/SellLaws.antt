@@ -1,26 +1,29 @@
 -- Laws of Sell: what its refusal table gives, the first game of a new ticket, and the house with one ticket more as a view.
-use Prim.Native.Nat.{ℕ, _+_, _≤_, _<_}
+use Prim.Native.Nat.{ℕ, _+_, _%_, _≤_, _<_}
 use native.Mathlib.Omega.{arith}
 use mathlib.Core.Path.{_≡_, refl, sym, ap, ap₂, _∙_}
-use mathlib.Core.Bool.{Bool, true, false, cond}
+use mathlib.Core.Bool.{Bool, true, false, cond, not, _&&_, _||_, false≢true}
 use mathlib.Core.List.{List, [], _∷_, _++_}
 use lib.Dec.{eqb}
 use lib.ListN.{length, take}
-use borrow.Author.Tests.{eqb-true, eq-eqb, ne-eqb, le-leb, lt-leb, lt-ltb, le-ltb}
+use borrow.Author.Tests.{eqb-true, eqb-false, eq-eqb, ne-eqb, le-leb, lt-leb, lt-ltb, le-ltb}
 use Rattle.sale.specs.Lists.{every}
 use Rattle.sale.specs.Ways.{sizes, sizeWord}
 use Rattle.sale.specs.Price.{paidGames}
-use Rattle.sale.specs.Checks.{Operands, firstMet, operandRows, operandCode, wayCount, chargeOf, acceptedQuote, refusedQuote, quoteOf}
+use Rattle.sale.specs.Checks.{Operands, hasFeature, featureStake, firstMet, operandRows, operandCode, wayCount, chargeOf, acceptedQuote, refusedQuote, quoteOf}
 use Rattle.sale.specs.Kinds.{jackpotBy}
+use Rattle.sale.specs.declared.terms.Feature.{Feature}
+use Rattle.sale.specs.declared.terms.Feature.the-variants.{Absent, LuckyLast}
 use Rattle.sale.proofs.CheckLaws.{stage-refused, stage-passed}
 use Rattle.house.specs.Tickets.{Ticket, termsOf}
 use Rattle.house.specs.Model.{Model, gameLimit, liveLimit, ticketLimit, isDrawing, nextGame, withTaken}
 use Rattle.house.specs.Commands.{sell, rowsOf, codeOf, soldTicket, sold}
-use Rattle.house.specs.View.{ticketsOf, view}
+use Rattle.house.specs.View.{featureFrom, ticketsOf, view}
 use Rattle.house.specs.declared.state.House.{House}
 use Rattle.house.proofs.Ledger.{withLive}
 use Rattle.house.proofs.ListLaws.{cond-either}
-use Rattle.house.proofs.Refusals.{saleRows}
+use Rattle.house.proofs.Refusals.{or-false, operands-accepted, saleRows}
+use Rattle.house.proofs.RowLaws.{feature-kept}
 use Rattle.house.proofs.ViewLaws.{view-live, view-by}
 
 -- ---- the code of a sale
@@ -78,6 +81,21 @@ quoted-code o = go (eqb (operandCode o) 0) refl
 pub next-within : (m : Model) → nextGame m ≤ m .game + 1
 next-within m = cond-either (λ g. g ≤ m .game + 1) (isDrawing m) (omega arith) (omega arith)
 
+-- ---- the feature
+
+-- the feature that a row keeps is the one that was entered: one of no stake is refused
+pub feature-back : (o : Operands) → operandCode o ≡ 0 → featureFrom (featureStake (o .feature)) ≡ o .feature
+feature-back o passed = feature-kept (o .feature) (staked (o .feature) (operands-accepted o passed .featureStaked))
+  where
+    staked : (f : Feature) → (hasFeature f && (eqb (featureStake f) 0 || not (eqb (featureStake f % 100) 0))) ≡ false → hasFeature f ≡ true → featureStake f ≡ 0 → ⊥
+    staked Absent clear entered none = false≢true entered
+    staked (LuckyLast stake) clear entered none = eqb-false stake 0 (or-false (eqb stake 0) _ clear .0) none
+
+-- the same operands with another feature
+abbrev withFeature : Operands → Feature → Operands
+withFeature o f =
+    record { kind = o .kind; games = o .games; stake = o .stake; groups = o .groups; types = o .types; feature = f; marks = o .marks }
+
 -- ---- the new ticket, and the house with it
 
 -- the struct with a charge taken for one ticket more
@@ -87,21 +105,22 @@ soldHouse h charge =
 
 module _ (h : House) (words marks : List ℕ) (o : Operands) where
   pub ticket-sold :
-      (first jackpot word paid count : ℕ)
+      (first jackpot word paid count : ℕ) (feature : Feature)
       → first ≡ nextGame (view h words marks)
       → jackpot ≡ jackpotBy (termsOf o) (sizes (o .marks))
       → word ≡ sizeWord (sizes (o .marks))
       → paid ≡ paidGames (o .games)
       → count ≡ wayCount o
+      → feature ≡ o .feature
       → _≡_ {A = Ticket}
-      (record { number = h .issued + 1; operands = o; ways = count; jackpot = jackpot; sizes = word; soldDay = h .day; first = first; stop = first + o .games; free = first + paid; due = 0; finishedDay = 0 })
+      (record { number = h .issued + 1; operands = withFeature o feature; ways = count; jackpot = jackpot; sizes = word; soldDay = h .day; first = first; stop = first + o .games; free = first + paid; due = 0; finishedDay = 0 })
       (soldTicket (view h words marks) o)
   unfolding view
-  ticket-sold first jackpot word paid count began played sized payed counted =
+  ticket-sold first jackpot word paid count feature began played sized payed counted entered =
       λ x.
       record {
         number = h .issued + 1;
-        operands = o;
+        operands = withFeature o (entered x);
         ways = counted x;
         jackpot = played x;
         sizes = sized x;

@@ -1,4 +1,4 @@
-// Sell: the checks in the order of their numbers, and then one ticket more behind the live ones.
+// Sell, with a feature or without one: the checks in the order of the table, and then one ticket more behind the live ones.
 use house::answer::Outcome;
 use house::answer::accepted;
 use house::answer::refused;
@@ -47,6 +47,7 @@ fn sold_row(house: House, sale: Sale, quote: Quote) -> Row
     ensures { λ r. ⌜ ((words marks from : List ℕ) → Quoted quote (operandsOf sale from) → ticketFrom r from ≡ soldTicket (view house words marks) (operandsOf sale from)) ⌝ }
 {
     let first = house.first_game();
+    let feature = sale.feature;
     Row {
         number: house.issued + 1,
         kind: sale.kind as u64,
@@ -63,6 +64,7 @@ fn sold_row(house: House, sale: Sale, quote: Quote) -> Row
         due: 0,
         finished: 0,
         sizes: quote.sizes,
+        feature: feature.stake() as u64,
     }
 }
 

@@ -32,7 +32,7 @@ pub enum Answer {
     },
     /// The twentieth ball is in, and the game is settled.
     Drawn {
-        /// All prizes as cut, and all jackpot shares.
+        /// All prizes as cut, feature prizes and jackpot shares.
         won: u64,
     },
     /// A ticket was paid.
@@ -128,7 +128,7 @@ impl Record {
         let Record { number, cents, .. } = *self;
         let answer = match self.command {
             1 => Answer::Opened { day: number },
-            2 => Answer::Sold { ticket: number, charge: cents },
+            2 | 8 => Answer::Sold { ticket: number, charge: cents },
             3 => Answer::Cancelled { ticket: number, refund: cents },
             4 if number == 20 => Answer::Drawn { won: cents },
             4 => Answer::BallIn { balls: number },

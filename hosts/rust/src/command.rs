@@ -12,6 +12,7 @@ const BALL: u8 = 4;
 const CLAIM: u8 = 5;
 const EXPIRE: u8 = 6;
 const TRANSFER: u8 = 7;
+const LUCKY_LAST: u8 = 8;
 
 /// A command with its operands, each as wide as on a roll. Nothing about them has
 /// been checked: the house refuses what is not in order.
@@ -22,7 +23,7 @@ pub enum Command {
         /// From 1 on, which is 1 January 1998.
         day: u16,
     },
-    /// Sells a ticket.
+    /// Sells a ticket. With a feature stake it is the command Lucky Last.
     Sell(Sale),
     /// Takes a ticket's undrawn games off, and pays them back.
     Cancel {
@@ -78,6 +79,8 @@ pub struct Sale {
     pub types: u8,
     /// The group of each number from 1 to 80, or 0.
     pub marks: [u8; NUMBERS],
+    /// Cents for each game on Lucky Last, where the ticket plays for it.
+    pub feature_stake: Option<u32>,
 }
 
 /// The four kinds of tickets.
@@ -122,7 +125,8 @@ impl Kind {
 impl Sale {
     /// A ticket without groups yet, whose ways are its single groups.
     pub fn new(kind: Kind, games: u8, stake: u32) -> Sale {
-        Sale { kind: kind.byte(), games, stake, groups: 0, types: 1, marks: [0; NUMBERS] }
+        let (kind, marks) = (kind.byte(), [0; NUMBERS]);
+        Sale { kind, games, stake, groups: 0, types: 1, marks, feature_stake: None }
     }
 
     /// Marks numbers from 1 to 80 as the next group.
@@ -150,6 +154,30 @@ impl Sale {
         self
     }
 
+    /// Plays for Lucky Last too, at a feature stake of so many cents a game.
+    ///
+    /// ```
+    /// use wulipday::{Command, Kind, Lounge, Sale};
+    ///
+    /// let mut lounge = Lounge::fresh();
+    /// lounge.give(&Command::Open { day: 1 })?;
+    /// // One number for one game at $1, and $2 on its being the last ball.
+    /// let sale = Sale::new(Kind::Standard, 1, 100).group(&[20]).lucky_last(200);
+    /// let sold = lounge.give(&Command::Sell(sale))?;
+    /// assert_eq!(sold.to_string(), "ticket 1 is sold for $3.00");
+    /// for number in 1..=20 {
+    ///     lounge.give(&Command::Ball { number })?;
+    /// }
+    /// // $3 for the number, and $60 for each dollar on the last ball.
+    /// let claimed = lounge.give(&Command::Claim { ticket: 1 })?;
+    /// assert_eq!(claimed.to_string(), "ticket 1 is paid $123.00");
+    /// # Ok::<(), wulipday::Refusal>(())
+    /// ```
+    pub fn lucky_last(mut self, feature_stake: u32) -> Sale {
+        self.feature_stake = Some(feature_stake);
+        self
+    }
+
     /// The numbers that are marked with this group.
     pub fn numbers_of(&self, group: u8) -> Vec<u8> {
         let marked = (1..).zip(self.marks).filter(|&(_, mark)| mark == group);
@@ -162,7 +190,8 @@ impl Command {
     pub fn byte(&self) -> u8 {
         match self {
             Command::Open { .. } => OPEN,
-            Command::Sell(_) => SELL,
+            Command::Sell(Sale { feature_stake: None, .. }) => SELL,
+            Command::Sell(_) => LUCKY_LAST,
             Command::Cancel { .. } => CANCEL,
             Command::Ball { .. } => BALL,
             Command::Claim { .. } => CLAIM,
@@ -177,6 +206,7 @@ impl Command {
         match byte {
             OPEN => Some(3),
             SELL => Some(9 + NUMBERS),
+            LUCKY_LAST => Some(9 + NUMBERS + 4),
             CANCEL | CLAIM => Some(5),
             BALL => Some(2),
             EXPIRE => Some(1),
@@ -195,6 +225,7 @@ impl Command {
                 bytes.extend(sale.stake.to_be_bytes());
                 bytes.extend([sale.groups, sale.types]);
                 bytes.extend(sale.marks);
+                bytes.extend(sale.feature_stake.into_iter().flat_map(u32::to_be_bytes));
             }
             Command::Cancel { ticket } | Command::Claim { ticket } => {
                 bytes.extend(ticket.to_be_bytes());
@@ -223,20 +254,29 @@ impl Command {
         let operands = bytes.get(1..length)?;
         Some(match bytes[0] {
             OPEN => Command::Open { day: u16::from_be_bytes([operands[0], operands[1]]) },
-            SELL => Command::Sell(Sale {
-                kind: operands[0],
-                games: operands[1],
-                stake: four_bytes(&operands[2..]),
-                groups: operands[6],
-                types: operands[7],
-                marks: operands[8..].try_into().expect("80 marks"),
-            }),
+            SELL | LUCKY_LAST => Command::Sell(Sale::decode(operands)),
             CANCEL => Command::Cancel { ticket: four_bytes(operands) },
             BALL => Command::Ball { number: operands[0] },
             CLAIM => Command::Claim { ticket: four_bytes(operands) },
             EXPIRE => Command::Expire,
             _ => Command::Transfer { jackpot: operands[0], cents: four_bytes(&operands[1..]) },
         })
+    }
+}
+
+impl Sale {
+    /// The sale with these operands. Behind the marks of a Sell there is nothing.
+    fn decode(operands: &[u8]) -> Sale {
+        let (marks, feature) = operands[8..].split_at(NUMBERS);
+        Sale {
+            kind: operands[0],
+            games: operands[1],
+            stake: four_bytes(&operands[2..]),
+            groups: operands[6],
+            types: operands[7],
+            marks: marks.try_into().expect("80 marks"),
+            feature_stake: (!feature.is_empty()).then(|| four_bytes(feature)),
+        }
     }
 }
 
@@ -269,6 +309,9 @@ impl fmt::Display for Sale {
         let groups: Vec<String> = (1..=self.groups).map(|group| self.shown(group)).collect();
         write!(formatter, " games {} stake {}", self.games, self.stake)?;
         write!(formatter, " groups {} types {}", groups.join(" / "), self.types)?;
+        if let Some(stake) = self.feature_stake {
+            write!(formatter, " feature {stake}")?;
+        }
         // What words can't say, and the house refuses.
         let strays = (1..).zip(self.marks).filter(|&(_, mark)| mark > self.groups);
         for (number, mark) in strays {
@@ -296,14 +339,16 @@ mod tests {
 
     fn commands() -> Vec<Command> {
         let sale = Sale::new(Kind::SpecialTwo, 100, 0x1234_5678).group(&[1, 80]).group(&[2]);
+        let sale = sale.ways_of(&[1, 8]);
         vec![
             Command::Open { day: 0x1234 },
-            Command::Sell(sale.ways_of(&[1, 8])),
+            Command::Sell(sale.clone()),
             Command::Cancel { ticket: 0x89AB_CDEF },
             Command::Ball { number: 80 },
             Command::Claim { ticket: 1 },
             Command::Expire,
             Command::Transfer { jackpot: 8, cents: u32::MAX },
+            Command::Sell(sale.lucky_last(0xFEDC_BA98)),
         ]
     }
 
@@ -316,7 +361,15 @@ mod tests {
             assert_eq!(Command::decode(&[bytes.clone(), vec![9]].concat()), Some(command));
             assert_eq!(Command::decode(&bytes[..bytes.len() - 1]), None);
         }
-        assert_eq!(Command::decode(&[8, 0, 0]), None);
+        assert_eq!(Command::decode(&[9, 0, 0]), None);
+    }
+
+    #[test]
+    fn a_lucky_last_is_a_sell_and_its_feature_stake() {
+        let sale = Sale::new(Kind::Standard, 1, 100).group(&[7]);
+        let sell = Command::Sell(sale.clone()).encode();
+        let lucky_last = Command::Sell(sale.lucky_last(0x0102_0304)).encode();
+        assert_eq!(lucky_last, [&[8], &sell[1..], &[1, 2, 3, 4]].concat());
     }
 
     #[test]

@@ -20,7 +20,8 @@ use std::path::Path;
 pub const JOURNAL_FORMAT: u32 = 1;
 
 /// The version of the rules. Whatever changes the answer to some bytes raises it,
-/// and a journal of other rules is refused.
+/// and a journal of other rules is refused. A new command does not: no journal had
+/// its byte, so that all are answered as before.
 pub const RULES: u32 = 2;
 
 /// Bytes of the longest roll that a [`JournaledLounge`] takes at once.

@@ -26,7 +26,7 @@ macro_rules! refusals {
 
         impl Refusal {
             /// All of them, by number.
-            pub const ALL: [Refusal; 27] = [$(Refusal::$name),*];
+            pub const ALL: [Refusal; 29] = [$(Refusal::$name),*];
 
             /// What it says, for people.
             pub fn sentence(self) -> &'static str {
@@ -66,6 +66,8 @@ refusals! {
     NoSuchJackpot = 28, "there is no such jackpot";
     TransferCents = 29, "the cents are 0 or more than is unclaimed";
     ShortBuffer = 30, "the buffer is too short for the live tickets";
+    LuckyLast = 31, "a Lucky Last ticket is a standard one with one way";
+    FeatureStake = 32, "the feature stake is 0 or not whole dollars";
 }
 
 impl Refusal {
@@ -93,12 +95,12 @@ mod tests {
     use super::*;
 
     #[test]
-    fn every_number_from_4_to_30() {
+    fn every_number_from_4_to_32() {
         let numbers: Vec<u8> = Refusal::ALL.iter().map(|refusal| refusal.number()).collect();
-        assert_eq!(numbers, (4..=30).collect::<Vec<u8>>());
+        assert_eq!(numbers, (4..=32).collect::<Vec<u8>>());
         for number in 0..=255 {
             let found = Refusal::from_number(number).map(Refusal::number);
-            assert_eq!(found, (4..=30).contains(&number).then_some(number));
+            assert_eq!(found, (4..=32).contains(&number).then_some(number));
         }
     }
 }

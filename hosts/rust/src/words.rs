@@ -2,7 +2,7 @@
 //!
 //! ```text
 //! open DAY
-//! sell KIND games N stake CENTS groups N,N,N / N,N types N
+//! sell KIND games N stake CENTS groups N,N,N / N,N types N [feature CENTS]
 //! cancel TICKET
 //! balls N N N          # several balls, one command each
 //! claim TICKET
@@ -10,9 +10,10 @@
 //! transfer JACKPOT CENTS
 //! ```
 //!
-//! KIND is `standard`, `jackpot`, `special-one`, `special-two` or a number. What
-//! stands after `#` is a comment. Operands only have to fit their bytes: a roll
-//! may well hold commands that the house refuses.
+//! KIND is `standard`, `jackpot`, `special-one`, `special-two` or a number. With a
+//! feature stake the sale is a Lucky Last. What stands after `#` is a comment.
+//! Operands only have to fit their bytes: a roll may well hold commands that the
+//! house refuses.
 //!
 //! ```
 //! use wulipday::words;
@@ -121,7 +122,17 @@ fn read_sale(words: &mut Words) -> Result<Command, String> {
     words.expect("groups")?;
     let (groups, marks) = read_groups(&words.up_to("types")?)?;
     let types = words.number("the types")?;
-    Ok(Command::Sell(Sale { kind, games, stake, groups, types, marks }))
+    let feature_stake = read_feature(words)?;
+    Ok(Command::Sell(Sale { kind, games, stake, groups, types, marks, feature_stake }))
+}
+
+/// The feature stake, where there is one.
+fn read_feature(words: &mut Words) -> Result<Option<u32>, String> {
+    if words.is_empty() {
+        return Ok(None);
+    }
+    words.expect("feature")?;
+    words.number("the feature stake").map(Some)
 }
 
 fn read_kind(words: &mut Words) -> Result<u8, String> {

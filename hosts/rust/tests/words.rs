@@ -6,8 +6,16 @@ use wulipday::{Command, Kind, Sale};
 
 /// A sale with these groups, whatever its kind's byte.
 fn sale(kind: u8, games: u8, stake: u32, groups: &[&[u8]], types: u8) -> Command {
+    Command::Sell(terms(kind, games, stake, groups, types))
+}
+
+fn lucky_last(kind: u8, stake: u32, groups: &[&[u8]], types: u8, feature: u32) -> Command {
+    Command::Sell(terms(kind, 1, stake, groups, types).lucky_last(feature))
+}
+
+fn terms(kind: u8, games: u8, stake: u32, groups: &[&[u8]], types: u8) -> Sale {
     let blank = Sale { kind, types, ..Sale::new(Kind::Standard, games, stake) };
-    Command::Sell(groups.iter().fold(blank, |sale, numbers| sale.group(numbers)))
+    groups.iter().fold(blank, |sale, numbers| sale.group(numbers))
 }
 
 #[test]
@@ -29,6 +37,18 @@ fn every_command() {
         ),
         ("sell special-one games 1 stake 1 groups 1 types 0", vec![sale(2, 1, 1, &[&[1]], 0)]),
         ("sell special-two games 1 stake 1 groups 1 types 0", vec![sale(3, 1, 1, &[&[1]], 0)]),
+        (
+            "sell standard games 1 stake 100 groups 1,2,3 / 4,5 types 2 feature 200",
+            vec![lucky_last(0, 100, &[&[1, 2, 3], pair], 2, 200)],
+        ),
+        (
+            "sell jackpot games 1 stake 1 groups 80 types 1 feature 4294967295# refused",
+            vec![lucky_last(1, 1, &[&[80]], 1, u32::MAX)],
+        ),
+        (
+            "sell 0 games 1 stake 1 groups 1 types 1 feature 0",
+            vec![lucky_last(0, 1, &[&[1]], 1, 0)],
+        ),
         ("  cancel 7", vec![Command::Cancel { ticket: 7 }]),
         ("balls 80 0", vec![Command::Ball { number: 80 }, Command::Ball { number: 0 }]),
         ("claim 4294967295#", vec![Command::Claim { ticket: u32::MAX }]),
@@ -69,6 +89,22 @@ fn bad_lines_are_named() {
             "a marked number must be a number from 1 to 80, not \"\"",
         ),
         ("sell standard games 1 stake 1 groups 1/2,1 types 1", "1 is marked twice"),
+        (
+            "sell standard games 1 stake 1 groups 1 types 1 100",
+            "\"feature\" should stand where \"100\" does",
+        ),
+        (
+            "sell standard games 1 stake 1 groups 1 types 1 feature",
+            "a number is missing: the feature stake",
+        ),
+        (
+            "sell standard games 1 stake 1 groups 1 types 1 feature 4294967296",
+            "the feature stake must be a number from 0 to 4294967295, not \"4294967296\"",
+        ),
+        (
+            "sell standard games 1 stake 1 groups 1 types 1 feature 1 1",
+            "\"1\" is one word too many",
+        ),
         ("transfer 6", "a number is missing: the cents"),
     ];
     for (line, reason) in rows {

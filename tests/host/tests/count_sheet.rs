@@ -8,7 +8,7 @@ use reference::command::length;
 use reference::roll::{read_answer, ANSWER_BYTES};
 use reference::till::balances;
 use reference::{Cents, Command, CountSheet};
-use rolls::{mixed, scenarios};
+use rolls::{lucky_last, mixed, scenarios};
 use side_by_side::{jackpot, reference_jackpot};
 use std::collections::HashSet;
 use wulipday::{Lounge, Stop};
@@ -54,6 +54,10 @@ fn the_sheet_after_every_command() {
     let mut commands = 0;
     let mut rolls = mixed::mixed_set(1998, 700, 1_000);
     rolls.extend(scenarios::februaries(1998));
+    rolls.extend(scenarios::keno_to_go(1998));
+    rolls.extend(scenarios::cancels(1998));
+    rolls.extend(lucky_last::numbers(1998));
+    rolls.extend(lucky_last::beside_cuts(1998));
     for roll in rolls {
         let mut count = Count::fresh();
         let mut unread = &roll[..];

@@ -52,6 +52,7 @@ fn short_rolls_by_command() {
     // Here each book has room for its one answer.
     assert_eq!(pair.counts.coverage.missing(&FAR_CODES), ["stop 3"]);
     assert_eq!(pair.counts.coverage.impossible(), [""; 0]);
+    assert_eq!(pair.counts.features.missing(), [""; 0]);
     assert!(pair.counts.commands >= 300_000);
     print_counts("by command", &pair);
 }
@@ -109,6 +110,8 @@ fn lucky_guests() {
         assert_eq!(pair.read_by_command(&roll), Ok(()), "{roll:?}");
     }
     assert!(pair.counts.repeated_cuts > 100, "{}", pair.counts.repeated_cuts);
+    let features = &pair.counts.features;
+    assert!(features.games(true, true, true) > 100, "{features:?}");
     print_counts("lucky guests", &pair);
 }
 

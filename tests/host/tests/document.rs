@@ -1,8 +1,9 @@
 //! Document 01's printed roll and settled examples on the proved core alone,
-//! with the document's own figures, and the dates of a year by the calendar.
+//! with the document's own figures, the dates of a year by the calendar, and the
+//! last ball of a ticket with a feature.
 
 use reference::roll::{read_answer, ANSWER_BYTES};
-use reference::{Answer, Command};
+use reference::{Answer, Command, Sale};
 use wulipday::{Lounge, Refusal, Stop, Till};
 
 /// A day on which tickets are sold, drawn and claimed.
@@ -35,9 +36,22 @@ impl Desk {
         answer.number
     }
 
+    /// One group with a feature; answers its number.
+    fn lucky_last(&mut self, games: u8, stake: u32, feature_stake: u32, numbers: &[u8]) -> u32 {
+        let answer = self.give(Command::lucky_last(games, stake, feature_stake, numbers));
+        assert_eq!(answer.code, 0);
+        answer.number
+    }
+
     /// Balls 1 to 20; answers the cents of the last.
     fn draw(&mut self) -> u64 {
-        let answers = (1..=20).map(|number| self.give(Command::Ball { number }));
+        self.draw_up_to(20)
+    }
+
+    /// Balls 1 to 20, this one the last; answers its cents.
+    fn draw_up_to(&mut self, last: u8) -> u64 {
+        let balls = (1..=20).filter(|&number| number != last).chain([last]);
+        let answers = balls.map(|number| self.give(Command::Ball { number }));
         answers.last().expect("twenty balls").cents
     }
 
@@ -196,4 +210,89 @@ fn a_leap_day_counts_as_the_day_before() {
     assert_eq!(desk.expire_on(1_157), Answer::accepted(1, 1_200));
     let till = desk.lounge.till();
     assert_eq!((till.owed, till.unclaimed), (0, 2_100));
+}
+
+/// $3 for 1 of 1 in any case, and $60 for each feature dollar when it is the last.
+#[test]
+fn one_number_and_the_last_ball() {
+    for (last, cents) in [(20, 6_300), (19, 300), (1, 300)] {
+        let mut desk = Desk::on_day_one();
+        let ticket = desk.lucky_last(1, 100, 100, &[20]);
+        assert_eq!((desk.lounge.till().taken, desk.lounge.till().held), (200, 200));
+        assert_eq!(desk.draw_up_to(last), cents);
+        assert_eq!(desk.lounge.till().owed, cents);
+        assert_eq!(desk.claim(ticket), Answer::accepted(ticket, cents));
+        let till = desk.lounge.till();
+        assert_eq!((till.retained, till.negative), (cents - 200, true));
+    }
+}
+
+/// Rule 21.1 on 1 to 15 numbers of which one is drawn: without the feature, with it
+/// and as the last ball, and with it and not as the last.
+#[test]
+fn a_feature_by_how_many_numbers() {
+    let cents =
+        [6_000, 3_000, 2_000, 1_500, 1_200, 1_000, 850, 750, 650, 600, 550, 500, 450, 400, 400];
+    for (others, cents) in (0..).zip(cents) {
+        let mut desk = Desk::on_day_one();
+        let numbers = numbers(1, others);
+        desk.straight(0, 100, &numbers);
+        let plain = desk.draw_up_to(1);
+        desk.lucky_last(1, 100, 700, &numbers);
+        assert_eq!(desk.draw_up_to(1), plain + 7 * cents, "{numbers:?}");
+        desk.lucky_last(1, 100, 700, &numbers);
+        assert_eq!(desk.draw_up_to(2), plain, "{numbers:?}");
+    }
+}
+
+/// Majors 5,000,000, 5,000,000, 30,000, of which the first has a feature: 15 numbers
+/// at $100 are 40,000 whole.
+#[test]
+fn a_feature_beside_a_cut() {
+    let mut desk = Desk::on_day_one();
+    desk.lucky_last(1, 100, 10_000, &numbers(15, 0));
+    desk.straight(0, 100, &numbers(15, 0));
+    desk.straight(0, 600, &numbers(5, 1));
+    assert_eq!(desk.draw_up_to(15), 5_040_000);
+    for (ticket, cents) in (1..).zip([2_490_000 + 40_000, 2_490_000, 20_000]) {
+        assert_eq!(desk.claim(ticket), Answer::accepted(ticket, cents));
+    }
+}
+
+/// 49 of 50 games are paid for, the feature in the same ones, and the last is won.
+#[test]
+fn a_feature_in_a_free_game_and_a_refund() {
+    let mut desk = Desk::on_day_one();
+    let sale = Command::lucky_last(50, 100, 200, &[20]);
+    assert_eq!(desk.give(sale.clone()), Answer::accepted(1, 49 * 300));
+    assert_eq!(desk.give(Command::Cancel { ticket: 1 }), Answer::accepted(1, 49 * 300));
+    assert_eq!(desk.give(sale), Answer::accepted(2, 49 * 300));
+    for _game in 1..=49 {
+        assert_eq!(desk.draw_up_to(1), 300);
+    }
+    assert_eq!(desk.lounge.till().held, 0);
+    assert_eq!(desk.draw_up_to(20), 300 + 12_000);
+    assert_eq!(desk.claim(2), Answer::accepted(2, 50 * 300 + 12_000));
+}
+
+/// 31 comes before 14, 14 before 32 and 32 before 15.
+#[test]
+fn refusals_of_a_feature() {
+    let mut desk = Desk::on_day_one();
+    let most = 4_294_967_200;
+    let jackpot = Sale::new(1, 1, 50, &[&numbers(6, 0)], 1).with_feature(0);
+    let two_ways = Sale::new(0, 1, 100, &[&[1], &[2]], 1).with_feature(100);
+    let rows = [
+        (Command::Sell(jackpot), 31),
+        (Command::Sell(two_ways), 31),
+        (Command::lucky_last(1, 50, 50, &[1]), 14),
+        (Command::lucky_last(1, most, 0, &[1]), 32),
+        (Command::lucky_last(1, most, 101, &[1]), 32),
+        (Command::lucky_last(100, most, most, &[1]), 15),
+        (Command::lucky_last(1, 999_900, 100, &[1]), 15),
+    ];
+    for (command, code) in rows {
+        assert_eq!(desk.give(command.clone()), Answer::refused(code), "{command:?}");
+    }
+    assert_eq!(desk.lucky_last(1, 999_800, 100, &[1]), 1);
 }

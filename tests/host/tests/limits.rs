@@ -3,7 +3,7 @@
 
 mod side_by_side;
 
-use reference::command::{BALL, SELL};
+use reference::command::{BALL, LUCKY_LAST, SELL};
 use reference::roll::ANSWER_BYTES;
 use reference::{Command, House};
 use rolls::{FarGames, RollWriter};
@@ -30,6 +30,7 @@ fn the_last_games() {
     let mut pair = Pair::of(lounge, house);
     assert_eq!(pair.read_by_command(last), Ok(()));
     assert!(pair.counts.coverage.answers(SELL, 17) >= 5);
+    assert!(pair.counts.coverage.answers(LUCKY_LAST, 17) >= 5);
     assert_eq!(pair.counts.coverage.answers(BALL, 26), 2);
 }
 
@@ -51,19 +52,29 @@ fn the_last_ticket() {
 
     let house = House::seasoned(1, 0, CANCELLED);
     let mut writer = RollWriter::on(house.clone());
-    for _ticket in 0..202 {
-        writer.straight(0, 1, 100, &[1]);
+    for ticket in 1..=202 {
+        // The last number of all goes to a ticket with a feature.
+        if ticket < 200 {
+            writer.straight(0, 1, 100, &[1]);
+        } else {
+            writer.lucky_last(1, 100, 100, &[20]);
+        }
     }
+    writer.straight(0, 1, 100, &[1]);
     writer.cancel(CANCELLED);
     writer.cancel(House::LAST_TICKET);
     writer.cancel(House::LAST_TICKET + 1);
     writer.straight(0, 1, 100, &[1]);
+    writer.lucky_last(1, 100, 100, &[20]);
     writer.balls(&(1..=20).collect::<Vec<u8>>());
     writer.claim_last(201);
     writer.straight(0, 1, 100, &[1]);
+    writer.lucky_last(1, 100, 100, &[20]);
 
     let mut pair = Pair::of(lounge, house);
     assert_eq!(pair.read_by_command(&writer.finish()), Ok(()));
-    assert_eq!(pair.counts.coverage.answers(SELL, 16), 2);
-    assert_eq!(pair.counts.coverage.answers(SELL, 17), 2);
+    let coverage = &pair.counts.coverage;
+    assert_eq!(coverage.answers(LUCKY_LAST, 0), 1);
+    assert_eq!((coverage.answers(SELL, 16), coverage.answers(LUCKY_LAST, 16)), (1, 2));
+    assert_eq!((coverage.answers(SELL, 17), coverage.answers(LUCKY_LAST, 17)), (2, 2));
 }

@@ -46,9 +46,14 @@ fn a_whole_command_is_done_whatever_comes_behind() {
 
 #[test]
 fn without_a_whole_command_nothing_is_done() {
-    for (bytes, stop) in
-        [(&[][..], Stop::End), (&[0xFF], Stop::UnknownByte), (&[5, 0, 0, 0], Stop::TooFewBytes)]
-    {
+    // 93 bytes would be a sale with a feature.
+    for (bytes, stop) in [
+        (&[][..], Stop::End),
+        (&[0xFF], Stop::UnknownByte),
+        (&[9], Stop::UnknownByte),
+        (&[5, 0, 0, 0], Stop::TooFewBytes),
+        (&[8; 92], Stop::TooFewBytes),
+    ] {
         let mut lounge = won();
         let mut answer = [BLANK; ANSWER_BYTES];
         let report = lounge.command(bytes, &mut answer);

@@ -1,7 +1,7 @@
 //! The sample roll: its bytes, what the ledger prints for it, the answers that
 //! its comments give, and all that it is there to show.
 
-use reference::command::{BALL, CANCEL, CLAIM, EXPIRE, OPEN, SELL, TRANSFER};
+use reference::command::{BALL, CANCEL, CLAIM, EXPIRE, LUCKY_LAST, OPEN, SELL, TRANSFER};
 use reference::settlement::Settlement;
 use reference::{ledger, Answer, Command, House};
 use rolls::coverage::CODES;
@@ -74,14 +74,16 @@ fn every_command_is_accepted_and_refused() {
         let of = given.iter().filter(move |given| given.command.byte() == byte);
         of.map(|given| given.answer.code).collect::<Vec<u8>>()
     };
-    for byte in [OPEN, SELL, CANCEL, BALL, CLAIM, EXPIRE, TRANSFER] {
+    for byte in [OPEN, SELL, CANCEL, BALL, CLAIM, EXPIRE, TRANSFER, LUCKY_LAST] {
         assert!(codes_of(byte).contains(&0), "command {byte} is never accepted");
     }
     // 10 takes marks that words can't say, 16 takes 200 tickets, and 17 and 26
     // take ten million games.
     let left_out = [(SELL, 10), (SELL, 16), (SELL, 17), (BALL, 26)];
     for (byte, codes) in CODES {
-        for &code in codes.iter().filter(|&&code| code != 4) {
+        // Those that a Lucky Last shares with a Sell are shown by a Sell.
+        let is_shared = |code: u8| byte == LUCKY_LAST && (7..=17).contains(&code);
+        for &code in codes.iter().filter(|&&code| code != 4 && !is_shared(code)) {
             let shown = codes_of(byte).contains(&code);
             assert_eq!(shown, !left_out.contains(&(byte, code)), "command {byte}, code {code}");
         }
@@ -104,6 +106,9 @@ fn the_sample_shows_what_it_says() {
     shows("jackpot hit", &|given| {
         settled(given, &|game| game.winnings.iter().any(|w| w.shares > 0))
     });
+    shows("feature prize", &|given| {
+        settled(given, &|game| game.winnings.iter().any(|w| w.feature > 0))
+    });
     shows("seed", &|given| settled(given, &|game| game.seeded > 0));
     shows("cancel while drawing", &|given| accepted(given, CANCEL) && given.drawing);
     shows("expiry", &|given| accepted(given, EXPIRE) && given.answer.number > 0);
@@ -113,7 +118,7 @@ fn the_sample_shows_what_it_says() {
     for wanted in 0..=3 {
         let is_sold = |given: &Given| {
             accepted(given, SELL)
-                && matches!(given.command, Command::Sell { kind, .. } if kind == wanted)
+                && matches!(&given.command, Command::Sell(sale) if sale.kind == wanted)
         };
         shows("ticket of some kind", &is_sold);
     }

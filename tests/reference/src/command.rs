@@ -1,5 +1,5 @@
-//! The command table of "The house": seven commands, their operands and their
-//! bytes, and the answer each gets.
+//! The command table of "The house", and the commands asked for since: their
+//! operands and their bytes, and the answer each gets.
 
 use crate::ways::{marks_of, NUMBERS};
 
@@ -10,6 +10,11 @@ pub const BALL: u8 = 0x04;
 pub const CLAIM: u8 = 0x05;
 pub const EXPIRE: u8 = 0x06;
 pub const TRANSFER: u8 = 0x07;
+/// A sale with the feature Lucky Last.
+pub const LUCKY_LAST: u8 = 0x08;
+
+/// Bytes of a sale's operands, without a feature stake.
+const SALE_OPERANDS: usize = 1 + 1 + 4 + 1 + 1 + NUMBERS;
 
 /// A command with its operands, each as wide as the table says. Nothing about
 /// them has been checked.
@@ -18,15 +23,8 @@ pub enum Command {
     Open {
         day: u16,
     },
-    /// The marks may be any number of bytes; a roll always brings 80.
-    Sell {
-        kind: u8,
-        games: u8,
-        stake: u32,
-        groups: u8,
-        types: u8,
-        marks: Vec<u8>,
-    },
+    /// With a feature stake its byte is [`LUCKY_LAST`], without one [`SELL`].
+    Sell(Sale),
     Cancel {
         ticket: u32,
     },
@@ -41,6 +39,57 @@ pub enum Command {
         jackpot: u8,
         cents: u32,
     },
+}
+
+/// The operands of a sale.
+#[derive(Clone, Debug, PartialEq, Eq)]
+pub struct Sale {
+    pub kind: u8,
+    pub games: u8,
+    pub stake: u32,
+    pub groups: u8,
+    pub types: u8,
+    /// They may be any number of bytes; a roll always brings 80.
+    pub marks: Vec<u8>,
+    /// Cents per game. The sale asks for the feature by naming one, be it 0.
+    pub feature_stake: Option<u32>,
+}
+
+impl Sale {
+    /// A ticket with these groups of numbers, and no feature.
+    pub fn new(kind: u8, games: u8, stake: u32, groups: &[&[u8]], types: u8) -> Sale {
+        let marks = marks_of(groups);
+        let groups = groups.len() as u8;
+        Sale { kind, games, stake, groups, types, marks, feature_stake: None }
+    }
+
+    pub fn with_feature(self, feature_stake: u32) -> Sale {
+        Sale { feature_stake: Some(feature_stake), ..self }
+    }
+
+    fn encode(&self, bytes: &mut Vec<u8>) {
+        bytes.extend([self.kind, self.games]);
+        bytes.extend(self.stake.to_be_bytes());
+        bytes.extend([self.groups, self.types]);
+        bytes.extend(&self.marks);
+        if let Some(feature_stake) = self.feature_stake {
+            bytes.extend(feature_stake.to_be_bytes());
+        }
+    }
+
+    /// What is left behind the marks is the feature stake.
+    fn decode(operands: &[u8]) -> Sale {
+        let (sale, feature) = operands.split_at(SALE_OPERANDS);
+        Sale {
+            kind: sale[0],
+            games: sale[1],
+            stake: four_bytes(&sale[2..6]),
+            groups: sale[6],
+            types: sale[7],
+            marks: sale[8..].to_vec(),
+            feature_stake: (!feature.is_empty()).then(|| four_bytes(feature)),
+        }
+    }
 }
 
 /// What a command is answered: code 0 and two figures, or a refusal and zeros.
@@ -64,15 +113,20 @@ impl Answer {
 impl Command {
     /// A Sell of a ticket with these groups of numbers.
     pub fn sell(kind: u8, games: u8, stake: u32, groups: &[&[u8]], types: u8) -> Command {
-        let marks = marks_of(groups);
-        Command::Sell { kind, games, stake, groups: groups.len() as u8, types, marks }
+        Command::Sell(Sale::new(kind, games, stake, groups, types))
+    }
+
+    /// A sale with a feature, of one way made of one group.
+    pub fn lucky_last(games: u8, stake: u32, feature_stake: u32, numbers: &[u8]) -> Command {
+        Command::Sell(Sale::new(0, games, stake, &[numbers], 1).with_feature(feature_stake))
     }
 
     /// The command byte.
     pub fn byte(&self) -> u8 {
         match self {
             Command::Open { .. } => OPEN,
-            Command::Sell { .. } => SELL,
+            Command::Sell(sale) if sale.feature_stake.is_some() => LUCKY_LAST,
+            Command::Sell(_) => SELL,
             Command::Cancel { .. } => CANCEL,
             Command::Ball { .. } => BALL,
             Command::Claim { .. } => CLAIM,
@@ -81,18 +135,13 @@ impl Command {
         }
     }
 
-    /// The command as it stands on a roll. Marks go on as they are, so a Sell
+    /// The command as it stands on a roll. Marks go on as they are, so a sale
     /// without 80 of them does not read back.
     pub fn encode(&self) -> Vec<u8> {
         let mut bytes = vec![self.byte()];
         match self {
             Command::Open { day } => bytes.extend(day.to_be_bytes()),
-            Command::Sell { kind, games, stake, groups, types, marks } => {
-                bytes.extend([*kind, *games]);
-                bytes.extend(stake.to_be_bytes());
-                bytes.extend([*groups, *types]);
-                bytes.extend(marks);
-            }
+            Command::Sell(sale) => sale.encode(&mut bytes),
             Command::Cancel { ticket } | Command::Claim { ticket } => {
                 bytes.extend(ticket.to_be_bytes());
             }
@@ -112,14 +161,7 @@ impl Command {
         let operands = &bytes[1..];
         match bytes[0] {
             OPEN => Command::Open { day: operands[0] as u16 * 256 + operands[1] as u16 },
-            SELL => Command::Sell {
-                kind: operands[0],
-                games: operands[1],
-                stake: four_bytes(&operands[2..6]),
-                groups: operands[6],
-                types: operands[7],
-                marks: operands[8..8 + NUMBERS].to_vec(),
-            },
+            SELL | LUCKY_LAST => Command::Sell(Sale::decode(operands)),
             CANCEL => Command::Cancel { ticket: four_bytes(operands) },
             BALL => Command::Ball { number: operands[0] },
             CLAIM => Command::Claim { ticket: four_bytes(operands) },
@@ -137,7 +179,8 @@ impl Command {
 pub fn length(byte: u8) -> Option<usize> {
     match byte {
         OPEN => Some(1 + 2),
-        SELL => Some(1 + 1 + 1 + 4 + 1 + 1 + NUMBERS),
+        SELL => Some(1 + SALE_OPERANDS),
+        LUCKY_LAST => Some(1 + SALE_OPERANDS + 4),
         CANCEL | CLAIM => Some(1 + 4),
         BALL => Some(1 + 1),
         EXPIRE => Some(1),

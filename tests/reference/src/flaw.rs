@@ -26,11 +26,19 @@ pub enum Flaw {
     YearOf365Days,
     /// Every fourth year is a leap year, 2100 too.
     EveryFourthYearLeaps,
+    /// Any ball among the ticket's numbers wins the feature, not only the last.
+    FeatureByAnyBall,
+    /// Free games do not play for the feature.
+    NoFeatureInFreeGames,
+    /// A feature prize of $200 or more counts as a major prize and is cut.
+    FeatureAmongMajors,
+    /// A cancel gives back the stakes of the ways alone.
+    FeatureStakeNotRefunded,
 }
 
 impl Flaw {
     /// The flaws proper, without [`Flaw::None`].
-    pub const ALL: [Flaw; 8] = [
+    pub const ALL: [Flaw; 12] = [
         Flaw::SettlesOneGameMore,
         Flaw::OneCutRound,
         Flaw::CappedJackpot,
@@ -39,5 +47,9 @@ impl Flaw {
         Flaw::FallingLiveList,
         Flaw::YearOf365Days,
         Flaw::EveryFourthYearLeaps,
+        Flaw::FeatureByAnyBall,
+        Flaw::NoFeatureInFreeGames,
+        Flaw::FeatureAmongMajors,
+        Flaw::FeatureStakeNotRefunded,
     ];
 }

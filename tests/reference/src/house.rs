@@ -1,16 +1,18 @@
 //! "The house", and the commands' rows of "Where each thing is checked".
 //!
 //! Every command first goes through its row of the table from the left, and
-//! touches the house only when nothing there was met.
+//! touches the house only when nothing there was met. A sale with a feature has
+//! the row of a Sell, with 31 after 13 and 32 after 14.
 
 use crate::calendar::Calendar;
-use crate::command::{Answer, Command};
+use crate::command::{Answer, Command, Sale};
+use crate::draw::Draw;
 use crate::flaw::Flaw;
 use crate::jackpots::Jackpots;
 use crate::price;
 use crate::refusal;
 use crate::settlement::{settle, Entry, Settlement};
-use crate::ticket::{Closing, Kind, Standing, Terms, Ticket, TicketGame};
+use crate::ticket::{Closing, Kind, Standing, Terms, Ticket, TicketGame, Winnings};
 use crate::ways;
 use crate::Cents;
 
@@ -125,9 +127,7 @@ impl House {
     pub fn command(&mut self, command: &Command) -> Answer {
         let outcome = match command {
             Command::Open { day } => self.open(*day),
-            Command::Sell { kind, games, stake, groups, types, marks } => {
-                self.sell(*kind, *games, *stake, *groups, *types, marks)
-            }
+            Command::Sell(sale) => self.sell(sale),
             Command::Cancel { ticket } => self.cancel(*ticket),
             Command::Ball { number } => self.ball(*number),
             Command::Claim { ticket } => self.claim(*ticket),
@@ -150,20 +150,12 @@ impl House {
         Ok((u32::from(day), 0))
     }
 
-    fn sell(
-        &mut self,
-        kind: u8,
-        games: u8,
-        stake: u32,
-        groups: u8,
-        types: u8,
-        marks: &[u8],
-    ) -> Outcome {
+    fn sell(&mut self, sale: &Sale) -> Outcome {
         self.check_day()?;
-        let terms = check_terms(kind, games, stake, groups, types, marks)?;
+        let terms = check_terms(sale)?;
         let live_tickets = self.live_tickets().count();
         met(live_tickets >= Self::MOST_LIVE_TICKETS, refusal::LIVE_TICKETS)?;
-        let last_game = self.next_first_game() + u32::from(games) - 1;
+        let last_game = self.next_first_game() + terms.games - 1;
         met(
             self.issued() >= Self::LAST_TICKET || last_game > Self::LAST_GAME,
             refusal::NUMBERS_USED_UP,
@@ -188,10 +180,9 @@ impl House {
         let being_drawn = self.game_being_drawn();
         met(!ticket.has_game_to_take_off(being_drawn), refusal::NO_GAME_TO_TAKE_OFF)?;
 
-        let today = self.today;
         let ticket = &mut self.tickets[index];
-        let refund = ticket.take_off(being_drawn);
-        ticket.finish_if_no_game_is_left(today);
+        let refund = ticket.take_off(being_drawn, self.flaw);
+        ticket.finish_if_no_game_is_left(self.today);
         Ok((number, refund))
     }
 
@@ -309,11 +300,12 @@ impl House {
             (0..self.tickets.len()).filter(|&index| plays(&self.tickets[index])).collect();
         let entries: Vec<Entry> =
             players.iter().map(|&index| entry(&self.tickets[index], game)).collect();
-        let settlement = settle(&entries, &self.balls, &mut self.jackpots, self.flaw);
+        let draw = Draw::of(&self.balls);
+        let settlement = settle(&entries, &draw, &mut self.jackpots, self.flaw);
 
-        for (&index, winnings) in players.iter().zip(&settlement.winnings) {
+        for (&index, &winnings) in players.iter().zip(&settlement.winnings) {
             let ticket = &mut self.tickets[index];
-            ticket.draw(game, winnings.prizes, winnings.shares);
+            ticket.draw(game, winnings);
             ticket.finish_if_no_game_is_left(self.today);
         }
         self.contributed += settlement.contributed;
@@ -321,7 +313,7 @@ impl House {
         self.paid_back += settlement.paid_back;
         self.game += 1;
         self.balls.clear();
-        let won = settlement.winnings.iter().map(|w| w.prizes + w.shares).sum();
+        let won = settlement.winnings.iter().map(Winnings::all).sum();
         self.last_settlement = Some(settlement);
         won
     }
@@ -332,7 +324,7 @@ impl House {
         let game = self.game;
         for ticket in self.tickets.iter_mut().filter(|ticket| ticket.is_live()) {
             let last = &ticket.games[ticket.games.len() - 1];
-            let just_drawn = matches!(last.standing, Standing::Drawn { .. });
+            let just_drawn = matches!(last.standing, Standing::Drawn(_));
             if just_drawn && last.number + 1 == game {
                 let standing = Standing::Waiting;
                 ticket.games.push(TicketGame { number: game, paid: false, standing });
@@ -355,16 +347,11 @@ fn entry(ticket: &Ticket, game: u32) -> Entry<'_> {
     Entry { terms: &ticket.terms, paid }
 }
 
-/// The checks of a Sell that need no house: 7 to 15.
-fn check_terms(
-    kind: u8,
-    games: u8,
-    stake: u32,
-    groups: u8,
-    types: u8,
-    marks: &[u8],
-) -> Result<Terms, u8> {
-    let kind = Kind::from_byte(kind).ok_or(refusal::KIND)?;
+/// The checks of a sale that need no house: 7 to 15, with 31 and 32 where it asks
+/// for the feature.
+fn check_terms(sale: &Sale) -> Result<Terms, u8> {
+    let Sale { games, groups, types, ref marks, .. } = *sale;
+    let kind = Kind::from_byte(sale.kind).ok_or(refusal::KIND)?;
     met(!(1..=price::MOST_GAMES).contains(&games), refusal::GAMES)?;
     met(!(1..=ways::MOST_GROUPS).contains(&groups), refusal::GROUPS)?;
     met(!ways::marks_in_order(marks, groups), refusal::MARKS)?;
@@ -373,9 +360,13 @@ fn check_terms(
     let sizes: Vec<usize> = ways.iter().map(Vec::len).collect();
     met(!kind.allows_sizes(&sizes), refusal::WAY_SIZE)?;
     met(kind == Kind::SpecialOne && ways.len() == 1, refusal::SPECIAL_ONE_WITH_ONE_WAY)?;
-    let stake = Cents::from(stake);
+    let with_feature = sale.feature_stake.is_some();
+    met(with_feature && (kind != Kind::Standard || ways.len() > 1), refusal::FEATURE_TICKET)?;
+    let stake = Cents::from(sale.stake);
     met(!price::stake_in_order(kind, ways.len(), stake), refusal::STAKE)?;
-    let terms = Terms { kind, games: u32::from(games), stake, ways };
+    let feature_stake = sale.feature_stake.map_or(0, Cents::from);
+    met(with_feature && !price::feature_stake_in_order(feature_stake), refusal::FEATURE_STAKE)?;
+    let terms = Terms { kind, games: u32::from(games), stake, ways, feature_stake };
     met(terms.charge() > price::MOST_CHARGE, refusal::CHARGE)?;
     Ok(terms)
 }

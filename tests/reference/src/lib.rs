@@ -12,6 +12,7 @@
 //! | Price                               | [`price`]                        |
 //! | Prizes, and rule book section 18    | [`prizes`], [`schedule`]         |
 //! | Jackpots                            | [`jackpots`], [`settlement`]     |
+//! | Lucky Last, asked since             | [`draw`], [`price`], [`prizes`], [`schedule`] |
 //! | The house: commands                 | [`command`], [`ticket`], [`house`] |
 //! | The house: till                     | [`till`]                         |
 //! | The house: the count sheet          | [`sheet`]                        |
@@ -22,6 +23,7 @@
 
 pub mod calendar;
 pub mod command;
+pub mod draw;
 pub mod flaw;
 pub mod house;
 pub mod jackpots;
@@ -42,11 +44,12 @@ pub mod ways;
 pub type Cents = i128;
 
 pub use calendar::{Calendar, Date};
-pub use command::{Answer, Command};
+pub use command::{Answer, Command, Sale};
+pub use draw::Draw;
 pub use flaw::Flaw;
 pub use house::House;
 pub use jackpots::{Jackpot, Jackpots};
 pub use ledger::ledger;
 pub use roll::{run_roll, Report};
 pub use sheet::CountSheet;
-pub use ticket::{Closing, Kind, Standing, Terms, Ticket, TicketGame};
+pub use ticket::{Closing, Kind, Standing, Terms, Ticket, TicketGame, Winnings};

@@ -1,4 +1,4 @@
-//! "Price": stakes, paid games and the charge.
+//! "Price": stakes, paid games and the charge; and the stake of a feature.
 
 use crate::ticket::Kind;
 use crate::Cents;
@@ -23,6 +23,11 @@ pub fn stake_in_order(kind: Kind, ways: usize, stake: Cents) -> bool {
     stake >= least_way_stake(ways) && stake % step == 0
 }
 
+/// Whether the feature may be played at this stake, per game.
+pub fn feature_stake_in_order(feature_stake: Cents) -> bool {
+    feature_stake > 0 && feature_stake % DOLLAR == 0
+}
+
 /// The least stake of a way ticket with four ways or more (rule 6.2 (c)).
 fn least_way_stake(ways: usize) -> Cents {
     if ways >= 50 {
@@ -43,7 +48,7 @@ pub fn paid_games(games: u32) -> u32 {
     }
 }
 
-/// What a ticket costs.
-pub fn charge(stake: Cents, ways: usize, games: u32) -> Cents {
-    stake * ways as Cents * Cents::from(paid_games(games))
+/// What a ticket costs that pays so much for a game.
+pub fn charge(game_price: Cents, games: u32) -> Cents {
+    game_price * Cents::from(paid_games(games))
 }

@@ -1,4 +1,5 @@
-//! "Prizes": what a way wins by itself, and the cut of a game's major prizes.
+//! "Prizes": what a way wins by itself, and the cut of a game's major prizes;
+//! and what a feature wins.
 
 use crate::flaw::Flaw;
 use crate::schedule;
@@ -43,10 +44,18 @@ fn dollars(kind: Kind, selected: usize, matched: usize) -> u32 {
     }
 }
 
+/// What a feature wins when the last ball is among the ticket's numbers: by rule
+/// 21.1, however much that is. Feature stakes are whole dollars.
+pub fn feature_prize(selected: usize, feature_stake: Cents) -> Cents {
+    Cents::from(schedule::lucky_last(selected)) * (feature_stake / 100)
+}
+
 /// The major prizes of a game after the cut, in the order they came in.
 #[derive(Clone, Debug, PartialEq, Eq)]
 pub struct Cut {
     pub prizes: Vec<Cents>,
+    /// Whether they came to more than [`MAJORS_TOGETHER`].
+    pub applied: bool,
     /// In how many rounds prizes joined the floored.
     pub rounds: usize,
     /// How many prizes were floored.
@@ -58,7 +67,7 @@ pub fn cut(majors: &[Cents], flaw: Flaw) -> Cut {
     let mut floored = vec![false; majors.len()];
     let mut rounds = 0;
     if majors.iter().sum::<Cents>() <= MAJORS_TOGETHER {
-        return Cut { prizes: majors.to_vec(), rounds, floored: 0 };
+        return Cut { prizes: majors.to_vec(), applied: false, rounds, floored: 0 };
     }
     while join_the_floored(majors, &mut floored) {
         rounds += 1;
@@ -73,7 +82,7 @@ pub fn cut(majors: &[Cents], flaw: Flaw) -> Cut {
         prizes.iter_mut().for_each(|prize| *prize = (*prize).max(0));
     }
     let floored = floored.iter().filter(|&&f| f).count();
-    Cut { prizes, rounds, floored }
+    Cut { prizes, applied: true, rounds, floored }
 }
 
 /// One round: every p outside F with p × A < 20,000 × B joins F, all by the A

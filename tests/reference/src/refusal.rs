@@ -1,4 +1,5 @@
-//! The numbers of "Where each thing is checked", by name.
+//! The numbers of "Where each thing is checked", and of the requests since, by
+//! name.
 
 pub const DAY_IS_ZERO: u8 = 4;
 pub const DAY_NOT_LATER: u8 = 5;
@@ -32,3 +33,6 @@ pub const JACKPOT: u8 = 28;
 pub const TRANSFER_CENTS: u8 = 29;
 
 pub const SHORT_BUFFER: u8 = 30;
+
+pub const FEATURE_TICKET: u8 = 31;
+pub const FEATURE_STAKE: u8 = 32;

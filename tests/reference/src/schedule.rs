@@ -4,6 +4,8 @@
 //! The tables stand here as they are printed, a row for each match and a column
 //! for each selection. `X` is a cell the book leaves blank. Rows that the book
 //! leaves out, blank cells and selections without a table all pay 0.
+//!
+//! Beside them, rule 21.1 of Tasmania's book: Lucky Last.
 
 const X: u32 = 0;
 
@@ -65,6 +67,10 @@ const SPECIAL_ONE_6_AND_8: [Row<2>; 7] = [
 const SPECIAL_TWO_3_TO_6: [Row<4>; 4] =
     [(3, [56, X, X, X]), (4, [X, 252, X, X]), (5, [X, X, 1_200, X]), (6, [X, X, X, 6_000])];
 
+/// Rule 21.1, numbers selected 1 to 15: cents for a dollar.
+const LUCKY_LAST: [u32; 15] =
+    [6_000, 3_000, 2_000, 1_500, 1_200, 1_000, 850, 750, 650, 600, 550, 500, 450, 400, 400];
+
 /// Rule 18.1.
 pub fn standard(selected: usize, matched: usize) -> u32 {
     match selected {
@@ -88,6 +94,14 @@ pub fn special_one(selected: usize, matched: usize) -> u32 {
 pub fn special_two(selected: usize, matched: usize) -> u32 {
     match selected {
         3..=6 => cell(&SPECIAL_TWO_3_TO_6, selected - 3, matched),
+        _ => 0,
+    }
+}
+
+/// Rule 21.1: cents for a dollar, when the last ball is among the numbers.
+pub fn lucky_last(selected: usize) -> u32 {
+    match selected {
+        1..=15 => LUCKY_LAST[selected - 1],
         _ => 0,
     }
 }

@@ -5,7 +5,8 @@
 //! and answers each accepted command from what it holds itself.
 
 use crate::calendar::Calendar;
-use crate::command::Command;
+use crate::command::{Command, Sale};
+use crate::draw::Draw;
 use crate::flaw::Flaw;
 use crate::house::House;
 use crate::jackpots::Jackpots;
@@ -15,7 +16,7 @@ use crate::ticket::{Kind, Terms};
 use crate::ways::ways;
 use crate::Cents;
 
-/// A line for an accepted Sell.
+/// A line for an accepted sale; its feature stake stands among the terms.
 #[derive(Clone, Debug)]
 struct Line {
     terms: Terms,
@@ -26,10 +27,11 @@ struct Line {
 }
 
 impl Line {
-    /// What was paid for one of its games; the last of 50 or more are free.
+    /// What was paid for one of its games; the last of 50 or more are free, and
+    /// then the feature is too.
     fn paid_stakes_of(&self, game: u32) -> Cents {
         if game < self.first_game + paid_games(self.terms.games) {
-            self.terms.game_stakes()
+            self.terms.game_price()
         } else {
             0
         }
@@ -98,12 +100,7 @@ impl CountSheet {
         }
         match command {
             Command::Open { day } => self.open(*day),
-            Command::Sell { kind, games, stake, groups, types, marks } => self.sell(Terms {
-                kind: Kind::from_byte(*kind).expect("an accepted kind"),
-                games: u32::from(*games),
-                stake: Cents::from(*stake),
-                ways: ways(marks, *groups, *types),
-            }),
+            Command::Sell(sale) => self.sell(sale),
             Command::Cancel { ticket } => self.cancel(*ticket),
             Command::Ball { number } => self.ball(*number),
             Command::Claim { ticket } => self.claim(*ticket),
@@ -121,7 +118,14 @@ impl CountSheet {
         (u32::from(day), 0)
     }
 
-    fn sell(&mut self, terms: Terms) -> (u32, Cents) {
+    fn sell(&mut self, sale: &Sale) -> (u32, Cents) {
+        let terms = Terms {
+            kind: Kind::from_byte(sale.kind).expect("an accepted kind"),
+            games: u32::from(sale.games),
+            stake: Cents::from(sale.stake),
+            ways: ways(&sale.marks, sale.groups, sale.types),
+            feature_stake: sale.feature_stake.map_or(0, Cents::from),
+        };
         let first_game = if self.balls.is_empty() { self.game } else { self.game + 1 };
         let charge = terms.charge();
         self.figures.taken += charge;
@@ -169,19 +173,20 @@ impl CountSheet {
             .filter(playing)
             .map(|line| Entry { terms: &line.terms, paid: line.paid_stakes_of(game) > 0 })
             .collect();
-        let settlement = settle(&entries, &self.balls, &mut self.jackpots, Flaw::None);
+        let draw = Draw::of(&self.balls);
+        let settlement = settle(&entries, &draw, &mut self.jackpots, Flaw::None);
 
         let mut all_won = 0;
         let lines = self.lines.iter_mut().filter(|line| line.games_left.contains(&game));
         for (line, winnings) in lines.zip(&settlement.winnings) {
-            let won = winnings.prizes + winnings.shares;
+            let won = winnings.prizes + winnings.feature + winnings.shares;
             let stakes = line.paid_stakes_of(game);
             line.due += won;
             line.games_left.retain(|&left| left != game);
             line.games_went(self.today);
             self.figures.owed += won;
             self.figures.held -= stakes;
-            self.figures.retained += stakes - winnings.prizes;
+            self.figures.retained += stakes - winnings.prizes - winnings.feature;
             self.figures.pooled -= winnings.shares;
             all_won += won;
         }

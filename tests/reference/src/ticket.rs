@@ -3,6 +3,7 @@
 //! A ticket keeps a line for each game it was sold for. Whatever is asked about
 //! its money is added up from these lines.
 
+use crate::flaw::Flaw;
 use crate::price;
 use crate::Cents;
 
@@ -47,16 +48,23 @@ pub struct Terms {
     pub stake: Cents,
     /// The numbers of each way.
     pub ways: Vec<Vec<u8>>,
+    /// Cents per game; 0 where there is no feature.
+    pub feature_stake: Cents,
 }
 
 impl Terms {
     pub fn charge(&self) -> Cents {
-        price::charge(self.stake, self.ways.len(), self.games)
+        price::charge(self.game_price(), self.games)
     }
 
     /// The stakes of all ways in one game.
-    pub fn game_stakes(&self) -> Cents {
+    pub fn way_stakes(&self) -> Cents {
         self.stake * self.ways.len() as Cents
+    }
+
+    /// What the ticket pays for a game.
+    pub fn game_price(&self) -> Cents {
+        self.way_stakes() + self.feature_stake
     }
 
     pub fn is_keno_to_go(&self) -> bool {
@@ -67,17 +75,42 @@ impl Terms {
     pub fn jackpot_numbers(&self) -> Option<usize> {
         (self.kind == Kind::Jackpot).then(|| self.ways[0].len())
     }
+
+    /// The numbers that a feature is played on. A ticket with one has one way,
+    /// which has all its numbers.
+    pub fn feature_numbers(&self) -> Option<&[u8]> {
+        (self.feature_stake > 0).then(|| self.ways[0].as_slice())
+    }
+}
+
+/// What a game brought a ticket.
+#[derive(Clone, Copy, Debug, Default, PartialEq, Eq)]
+pub struct Winnings {
+    /// Prizes of its ways, as cut.
+    pub prizes: Cents,
+    /// The prize of its feature.
+    pub feature: Cents,
+    /// Jackpot shares.
+    pub shares: Cents,
+}
+
+impl Winnings {
+    /// Prizes other than jackpot shares.
+    pub fn prizes_and_feature(&self) -> Cents {
+        self.prizes + self.feature
+    }
+
+    pub fn all(&self) -> Cents {
+        self.prizes_and_feature() + self.shares
+    }
 }
 
 /// What became of one game of a ticket.
 #[derive(Clone, Copy, Debug, PartialEq, Eq)]
 pub enum Standing {
     Waiting,
-    /// Drawn, with the prizes as cut and the jackpot shares it brought.
-    Drawn {
-        prizes: Cents,
-        shares: Cents,
-    },
+    /// Drawn, with what it brought.
+    Drawn(Winnings),
     /// Taken off by a cancel.
     TakenOff,
 }
@@ -147,14 +180,14 @@ impl Ticket {
     }
 
     /// Takes games off and answers the refund.
-    pub fn take_off(&mut self, being_drawn: Option<u32>) -> Cents {
-        let before = self.refunded();
+    pub fn take_off(&mut self, being_drawn: Option<u32>, flaw: Flaw) -> Cents {
+        let before = self.refunded(flaw);
         for game in &mut self.games {
             if Self::comes_off(game, being_drawn) {
                 game.standing = Standing::TakenOff;
             }
         }
-        self.refunded() - before
+        self.refunded(flaw) - before
     }
 
     /// The line of a game that is waiting to be drawn.
@@ -163,10 +196,10 @@ impl Ticket {
     }
 
     /// Notes what a waiting game has won.
-    pub fn draw(&mut self, number: u32, prizes: Cents, shares: Cents) {
+    pub fn draw(&mut self, number: u32, winnings: Winnings) {
         for game in &mut self.games {
             if game.number == number && game.standing == Standing::Waiting {
-                game.standing = Standing::Drawn { prizes, shares };
+                game.standing = Standing::Drawn(winnings);
             }
         }
     }
@@ -182,46 +215,51 @@ impl Ticket {
         }
     }
 
-    /// Prizes as cut, of the games drawn so far.
+    /// Prizes other than jackpot shares, of the games drawn so far.
     pub fn prizes(&self) -> Cents {
-        let prizes = |game: &TicketGame| match game.standing {
-            Standing::Drawn { prizes, .. } => prizes,
-            _ => 0,
-        };
-        self.games.iter().map(prizes).sum()
+        self.drawn(Winnings::prizes_and_feature)
     }
 
     /// Jackpot shares of the games drawn so far.
     pub fn shares(&self) -> Cents {
-        let shares = |game: &TicketGame| match game.standing {
-            Standing::Drawn { shares, .. } => shares,
-            _ => 0,
-        };
-        self.games.iter().map(shares).sum()
+        self.drawn(|winnings| winnings.shares)
     }
 
     /// Everything the ticket won so far.
     pub fn won(&self) -> Cents {
-        self.prizes() + self.shares()
+        self.drawn(Winnings::all)
     }
 
-    /// Paid stakes of games neither drawn nor cancelled.
+    fn drawn(&self, figure: impl Fn(&Winnings) -> Cents) -> Cents {
+        let figure_of = |game: &TicketGame| match &game.standing {
+            Standing::Drawn(winnings) => figure(winnings),
+            _ => 0,
+        };
+        self.games.iter().map(figure_of).sum()
+    }
+
+    /// What was paid for games neither drawn nor cancelled.
     pub fn held(&self) -> Cents {
-        self.paid_stakes(|standing| standing == Standing::Waiting)
+        self.terms.game_price() * self.paid_games(|standing| *standing == Standing::Waiting)
     }
 
-    /// Paid stakes of games taken off.
-    pub fn refunded(&self) -> Cents {
-        self.paid_stakes(|standing| standing == Standing::TakenOff)
+    /// What was paid for games taken off.
+    pub fn refunded(&self, flaw: Flaw) -> Cents {
+        let refund = if flaw == Flaw::FeatureStakeNotRefunded {
+            self.terms.way_stakes()
+        } else {
+            self.terms.game_price()
+        };
+        refund * self.paid_games(|standing| *standing == Standing::TakenOff)
     }
 
-    /// Paid stakes of games drawn.
+    /// What was paid for games drawn.
     pub fn played(&self) -> Cents {
-        self.paid_stakes(|standing| matches!(standing, Standing::Drawn { .. }))
+        self.terms.game_price() * self.paid_games(|standing| matches!(standing, Standing::Drawn(_)))
     }
 
-    fn paid_stakes(&self, counts: impl Fn(Standing) -> bool) -> Cents {
-        let paid = self.games.iter().filter(|game| game.paid && counts(game.standing));
-        self.terms.game_stakes() * paid.count() as Cents
+    /// How many of the games that were paid for stand so.
+    fn paid_games(&self, counts: impl Fn(&Standing) -> bool) -> Cents {
+        self.games.iter().filter(|game| game.paid && counts(&game.standing)).count() as Cents
     }
 }

@@ -38,7 +38,7 @@ impl House {
     }
 
     fn refunded(&self) -> Cents {
-        self.sum(Ticket::refunded) + self.charges_behind()
+        self.sum(|ticket| ticket.refunded(self.flaw)) + self.charges_behind()
     }
 
     /// Every ticket behind a seasoned house was refunded whole.

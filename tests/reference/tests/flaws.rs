@@ -20,6 +20,14 @@ fn must_find(flaw: Flaw) -> &'static [&'static str] {
         Flaw::FallingLiveList => &["the live list rises"],
         Flaw::YearOf365Days => &["finished on 1 March 1999", "finished about 29 February 2000"],
         Flaw::EveryFourthYearLeaps => &["finished about February 2100", "finished about 2104"],
+        Flaw::FeatureByAnyBall => &["the same ball as the nineteenth", "every count of numbers"],
+        Flaw::NoFeatureInFreeGames => &["free games play for the feature"],
+        Flaw::FeatureAmongMajors => {
+            &["a feature prize is no major prize", "a feature prize is not cut"]
+        }
+        Flaw::FeatureStakeNotRefunded => {
+            &["a cancel refunds the feature stake", "a cancel while drawing keeps one game's"]
+        }
     }
 }
 

@@ -2,35 +2,23 @@
 //! everything that stands after it, and the house left as it was.
 //!
 //! The command that must be refused with a number breaks, as far as one
-//! command can, every later rule of its row as well.
+//! command can, every later rule of its row as well. Sales with a feature stand in
+//! feature_refusals.rs.
 
 mod checks;
 
-use checks::{Desk, FIRST_TWENTY, LAST_TWENTY, STRAIGHT};
+use checks::{accepted, refused, Desk, FIRST_TWENTY, LAST_TWENTY, STRAIGHT};
 use reference::command::{Answer, Command};
 use reference::ways::marks_of;
-use reference::{Flaw, House};
+use reference::{Flaw, House, Sale};
 
 fn desk() -> Desk {
     Desk::new(Flaw::None)
 }
 
-/// Gives a command and wants it refused with the code, nothing changed.
-fn refused(house: &mut House, command: &Command, code: u8) {
-    let before = house.clone();
-    assert_eq!(house.command(command), Answer::refused(code), "{command:?}");
-    assert!(*house == before, "{command:?} changed the house");
-}
-
-fn accepted(house: &mut House, command: &Command) -> Answer {
-    let answer = house.command(command);
-    assert_eq!(answer.code, 0, "{command:?}");
-    answer
-}
-
 /// A Sell with every operand in hand.
 fn sell(kind: u8, games: u8, stake: u32, groups: u8, types: u8, marks: Vec<u8>) -> Command {
-    Command::Sell { kind, games, stake, groups, types, marks }
+    Command::Sell(Sale { kind, games, stake, groups, types, marks, feature_stake: None })
 }
 
 fn numbers(count: u8) -> Vec<u8> {

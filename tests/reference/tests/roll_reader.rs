@@ -8,7 +8,7 @@ use checks::STRAIGHT;
 use reference::command::{length, Answer, Command};
 use reference::ledger::LEDGER_BYTES;
 use reference::roll::read_answer;
-use reference::{ledger, run_roll, House, Report};
+use reference::{ledger, run_roll, House, Report, Sale};
 
 /// What the book holds before.
 const BLANK: u8 = 0xA5;
@@ -46,7 +46,7 @@ fn stop_0_at_the_end_however_full_the_book() {
 
 #[test]
 fn stop_1_at_an_unknown_byte() {
-    for unknown in [0, 8, 255] {
+    for unknown in [0, 9, 255] {
         assert_eq!(run(&[unknown], 0).1, report(1, 0, 0));
         let roll = [&printed_roll()[..], &[unknown, 1, 2, 3]].concat();
         assert_eq!(run(&roll, 56).1, report(1, 102, 4));
@@ -58,7 +58,7 @@ fn stop_1_at_an_unknown_byte() {
 #[test]
 fn stop_2_with_too_few_bytes_left() {
     let roll = printed_roll();
-    for byte in 1..=7 {
+    for byte in 1..=8 {
         for bytes in 1..length(byte).expect("known") {
             let mut cut_off = vec![0; bytes];
             cut_off[0] = byte;
@@ -112,6 +112,8 @@ fn commands_read_back_as_written() {
         Command::Claim { ticket: 0x01020304 },
         Command::Expire,
         Command::Transfer { jackpot: 8, cents: 0xFFFFFFFF },
+        Command::lucky_last(100, 0x12345678, 0, &[1, 80]),
+        Command::Sell(Sale::new(3, 1, 7, &[&[2], &[3]], 0x81).with_feature(0xFEDCBA98)),
     ];
     for command in commands {
         let bytes = command.encode();
@@ -123,6 +125,32 @@ fn commands_read_back_as_written() {
         Command::Transfer { jackpot: 8, cents: 0x12345678 }.encode(),
         [7, 8, 0x12, 0x34, 0x56, 0x78]
     );
+}
+
+/// A sale with a feature is a Sell with another byte before and four bytes behind.
+#[test]
+fn a_feature_stake_stands_behind_the_marks() {
+    let plain = Command::sell(0, 2, 300, &[&[1, 80]], STRAIGHT).encode();
+    let feature = Command::lucky_last(2, 300, 0x01020304, &[1, 80]).encode();
+    assert_eq!((plain.len(), feature.len()), (89, 93));
+    assert_eq!((plain[0], feature[0]), (2, 8));
+    assert_eq!(feature[1..89], plain[1..]);
+    assert_eq!(feature[89..], [1, 2, 3, 4]);
+}
+
+/// Its record begins with the byte 8, accepted or refused.
+#[test]
+fn records_of_sales_with_a_feature() {
+    let mut roll = Command::lucky_last(1, 100, 100, &[1]).encode();
+    roll.extend(Command::Open { day: 1 }.encode());
+    roll.extend(Command::lucky_last(3, 100, 200, &[1]).encode());
+    roll.extend(Command::lucky_last(3, 100, 50, &[1]).encode());
+    let (_, found, book) = run(&roll, 56);
+    assert_eq!(found, report(0, 3 * 93 + 3, 4));
+    let answers: Vec<(u8, Answer)> = book.chunks(14).map(read_answer).collect();
+    let open = (1, Answer::accepted(1, 0));
+    let sold = (8, Answer::accepted(1, 900));
+    assert_eq!(answers, [(8, Answer::refused(4)), open, sold, (8, Answer::refused(32))]);
 }
 
 /// Cents stand in eight bytes, high byte first.

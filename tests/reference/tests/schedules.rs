@@ -1,7 +1,8 @@
-//! Rule book section 18, copied out a second time, by numbers selected, and
-//! compared cell by cell with the tables of the crate.
+//! Rule book section 18 and the schedule of Lucky Last, copied out a second time,
+//! by numbers selected, and compared cell by cell with the tables of the crate.
 
-use reference::schedule::{special_one, special_two, standard};
+use reference::prizes::feature_prize;
+use reference::schedule::{lucky_last, special_one, special_two, standard};
 
 /// Match and dollars, for each selection; what is not listed pays 0.
 type Column = (usize, &'static [(usize, u32)]);
@@ -116,4 +117,36 @@ fn every_cell() {
             assert_eq!(special_two(selected, matched), two, "special two, {cell}");
         }
     }
+}
+
+/// Rule 21.1: numbers selected, and dollars and cents.
+const LUCKY_LAST: [(usize, u32, u32); 15] = [
+    (1, 60, 0),
+    (2, 30, 0),
+    (3, 20, 0),
+    (4, 15, 0),
+    (5, 12, 0),
+    (6, 10, 0),
+    (7, 8, 50),
+    (8, 7, 50),
+    (9, 6, 50),
+    (10, 6, 0),
+    (11, 5, 50),
+    (12, 5, 0),
+    (13, 4, 50),
+    (14, 4, 0),
+    (15, 4, 0),
+];
+
+#[test]
+fn every_count_of_numbers_of_lucky_last() {
+    for (selected, dollars, cents) in LUCKY_LAST {
+        let printed = 100 * dollars + cents;
+        assert_eq!(lucky_last(selected), printed, "{selected} numbers");
+        for dollars in [1, 2, 7, 9_998] {
+            let prize = feature_prize(selected, 100 * dollars);
+            assert_eq!(prize, i128::from(printed) * dollars, "{selected} numbers at ${dollars}");
+        }
+    }
+    assert_eq!([0, 16, 80].map(lucky_last), [0, 0, 0]);
 }

@@ -75,30 +75,38 @@ fn last_games() -> Vec<u8> {
     let balls: Vec<u8> = (1..=20).collect();
     writer.straight(0, 100, 100, &[1]);
     writer.straight(1, 100, 100, &[1, 2, 3, 4, 5, 6]);
+    writer.lucky_last(100, 100, 100, &[20]);
     writer.ball(80);
-    writer.straight(0, 100, 100, &[1]);
-    writer.straight(0, 99, 100, &[1]);
+    for games in [100, 99] {
+        writer.straight(0, games, 100, &[1]);
+        writer.lucky_last(games, 100, 300, &[19, 20]);
+    }
     writer.draw_from(&balls);
     for games in [100, 99, 98, 50] {
         writer.straight(0, games, 100, &[80]);
+        writer.lucky_last(games, 100, 200, &[80]);
     }
     while writer.house().game() < House::LAST_GAME {
         writer.balls(&balls);
     }
     for games in [2, 1] {
         writer.straight(1, games, 100, &[1, 2, 3, 4, 5, 6, 7, 8]);
+        writer.lucky_last(games, 100, 100, &[19]);
     }
     writer.ball(80);
     writer.straight(0, 1, 100, &[1]);
+    writer.lucky_last(1, 100, 100, &[1]);
     writer.draw_from(&balls);
     // Past the last game.
     for number in [0, 81, 1, 80] {
         writer.ball(number);
     }
-    writer.straight(0, 1, 100, &[1]);
-    writer.straight(0, 0, 100, &[1]);
+    for games in [1, 0] {
+        writer.straight(0, games, 100, &[1]);
+        writer.lucky_last(games, 100, 100, &[1]);
+    }
     writer.cancel(1);
-    writer.claim_last(3);
+    writer.claim_last(5);
     writer.open(400);
     writer.expire();
     writer.transfer(6, 1);

@@ -10,14 +10,18 @@
 //! | Ways, Price, Prizes and their schedules      | [`sweeps`]     |
 //! | Cuts, jackpots, Keno To Go, cancels, expiry  | [`scenarios`]  |
 //! | The end of every February, as asked since    | [`scenarios`]  |
+//! | Lucky Last, as asked since                   | [`lucky_last`] |
 //! | All of it at once, refusals included         | [`mixed`]      |
 //! | The roll, when it is damaged or cut off      | [`damaged`]    |
 //! | The limits of 9,999,999                      | [`far_games`]  |
 //! | Every refusal and stop is met                | [`coverage`]   |
+//! | Every outcome of a feature is met            | [`features`]   |
 
 pub mod coverage;
 pub mod damaged;
 pub mod far_games;
+pub mod features;
+pub mod lucky_last;
 pub mod mixed;
 pub mod random;
 pub mod scenarios;
@@ -27,6 +31,7 @@ pub mod writer;
 
 pub use coverage::Coverage;
 pub use far_games::FarGames;
+pub use features::Features;
 pub use random::Random;
 pub use writer::RollWriter;
 
@@ -54,6 +59,10 @@ pub fn everything(seed: u64) -> Vec<NamedRoll> {
         ("februaries", scenarios::februaries(seed)),
         ("crowded lounge", scenarios::crowded_lounge(seed)),
         ("transfers", scenarios::transfers(seed)),
+        ("feature numbers", lucky_last::numbers(seed)),
+        ("feature operands", lucky_last::operands()),
+        ("feature charges", lucky_last::charges()),
+        ("features beside cuts", lucky_last::beside_cuts(seed)),
         ("mixed", mixed::mixed_set(seed, 60, 1_000)),
         ("overlong", mixed::overlong(seed)),
         ("damaged", damaged::damaged_set(seed, 120)),

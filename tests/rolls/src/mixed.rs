@@ -1,5 +1,5 @@
-//! A lounge at work: all seven commands in no particular order, most of them
-//! in order, and every refusal of the table now and then.
+//! A lounge at work: all commands in no particular order, most of them in order,
+//! and every refusal of the table now and then.
 //!
 //! Guests and balls both favour the same two dozen numbers, or nobody would
 //! ever win anything worth a cut.
@@ -8,7 +8,7 @@ use crate::random::Random;
 use crate::shapes;
 use crate::writer::RollWriter;
 use reference::ledger::LEDGER_BYTES;
-use reference::{Calendar, Command, Date, House, Ticket};
+use reference::{Calendar, Command, Date, House, Sale, Ticket};
 
 /// So many numbers are favoured.
 const FAVOURED: usize = 24;
@@ -84,8 +84,10 @@ impl Lounge {
         while self.writer.house().live_tickets().count() < House::MOST_LIVE_TICKETS {
             self.sell();
         }
-        self.sell();
-        self.sell();
+        for with_feature in [false, true] {
+            let sale = self.good_sale(with_feature);
+            self.writer.give(&Command::Sell(sale));
+        }
     }
 
     fn step(&mut self) {
@@ -155,19 +157,25 @@ impl Lounge {
     }
 
     fn sell(&mut self) {
-        let mut sell = self.good_sell();
+        let with_feature = self.random.percent(22);
+        let mut sale = self.good_sale(with_feature);
         if self.random.percent(15) {
-            self.spoil(&mut sell);
+            self.spoil(&mut sale);
+        } else if with_feature && self.random.percent(8) {
+            self.spoil_feature(&mut sale);
         }
-        self.writer.give(&sell);
+        self.writer.give(&Command::Sell(sale));
     }
 
-    fn good_sell(&mut self) -> Command {
-        let shape = shapes::any_shape(&mut self.random);
+    fn good_sale(&mut self, with_feature: bool) -> Sale {
         let games = self.games();
-        let stake = shapes::stake(&mut self.random, &shape, games);
         let numbers = self.favoured_first();
-        shapes::sell(&shape, games, stake, &numbers)
+        if with_feature {
+            return shapes::sale_with_feature(&mut self.random, games, &numbers);
+        }
+        let shape = shapes::any_shape(&mut self.random);
+        let stake = shapes::stake(&mut self.random, &shape, games);
+        shapes::sale(&shape, games, stake, &numbers)
     }
 
     fn games(&mut self) -> u8 {
@@ -194,9 +202,9 @@ impl Lounge {
         [front, back].concat()
     }
 
-    /// Spoils one operand of a Sell.
-    fn spoil(&mut self, sell: &mut Command) {
-        let Command::Sell { kind, games, stake, groups, types, marks } = sell else { return };
+    /// Spoils one operand of a sale.
+    fn spoil(&mut self, sale: &mut Sale) {
+        let Sale { kind, games, stake, groups, types, marks, .. } = sale;
         let place = self.random.below(80) as usize;
         match self.random.below(10) {
             0 => *kind = self.random.between(4, 255) as u8,
@@ -209,6 +217,19 @@ impl Lounge {
             7 => *stake += self.random.pick(&[1, 5, 10, 50]),
             8 => *stake = self.random.pick(&[0, 999_900, 1_000_000, u32::MAX]),
             _ => marks[..20].iter_mut().for_each(|mark| *mark = (*mark).max(1)),
+        }
+    }
+
+    /// Spoils a feature stake, or asks for the feature on a ticket that mostly may
+    /// not have it.
+    fn spoil_feature(&mut self, sale: &mut Sale) {
+        if self.random.percent(50) {
+            let stakes = [0, 50, 101, 999_900, 4_294_967_200, u32::MAX];
+            sale.feature_stake = Some(self.random.pick(&stakes));
+        } else {
+            let shape = shapes::any_shape(&mut self.random);
+            let numbers = self.favoured_first();
+            *sale = shapes::sale(&shape, sale.games, sale.stake, &numbers).with_feature(100);
         }
     }
 
@@ -274,7 +295,7 @@ impl Lounge {
 
     /// A known command with whatever operands.
     fn anything(&mut self) {
-        let byte = self.random.between(1, 7) as u8;
+        let byte = self.random.between(1, 8) as u8;
         let length = reference::command::length(byte).expect("a known command");
         let mut bytes: Vec<u8> = (0..length).map(|_| self.random.byte()).collect();
         bytes[0] = byte;

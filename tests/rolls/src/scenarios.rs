@@ -5,7 +5,7 @@
 use crate::random::Random;
 use crate::shapes::{self, EIGHTS, JACKPOT, SIXES, SPECIAL_TWO, STANDARD};
 use crate::writer::RollWriter;
-use reference::{Calendar, Date, House};
+use reference::{Calendar, Command, Date, House, Sale};
 use std::ops::RangeInclusive;
 
 /// 200 way tickets with eight groups and types 255 on the numbers that will be
@@ -161,8 +161,9 @@ fn grown_jackpot(random: &mut Random) -> Vec<u8> {
     writer.finish()
 }
 
-/// 49, 50, 99 and 100 games, of jackpot and other tickets, drawn to the end,
-/// with wins in paid and in free games and cancels that come too late.
+/// 49, 50, 99 and 100 games, of jackpot and other tickets, with a feature and
+/// without, drawn to the end, with wins in paid and in free games and cancels that
+/// come too late.
 pub fn keno_to_go(seed: u64) -> Vec<Vec<u8>> {
     let mut random = Random::new(seed ^ 0x2C);
     (0..4).map(|_| keno_to_go_games(&mut random)).collect()
@@ -175,9 +176,16 @@ fn keno_to_go_games(random: &mut Random) -> Vec<u8> {
         writer.straight(STANDARD, games, 100, &numbers[..1]);
         writer.straight(JACKPOT, games, 200, &numbers[..6]);
         writer.straight(SPECIAL_TWO, games, 300, &numbers[2..6]);
-        // Sold, and cancelled before its first game begins.
-        let cancelled = writer.straight(JACKPOT, games, 100, &numbers[..8]);
-        writer.cancel(cancelled.number);
+        // Where there are hits, number 18 comes last and 17 before it.
+        writer.lucky_last(games, 100, 200, &numbers[18..19]);
+        writer.lucky_last(games, 100, 300, &numbers[16..18]);
+        // Sold, and cancelled before their first game begins.
+        for sale in [
+            Command::sell(JACKPOT, games, 100, &[&numbers[..8]], 1),
+            Command::lucky_last(games, 100, 400, &numbers[18..19]),
+        ] {
+            writer.sell_and_cancel(&sale);
+        }
     }
     let issued = writer.house().issued();
     for game in 1..=101 {
@@ -222,38 +230,40 @@ const MOMENTS: [Moment; 8] = [
 ];
 
 /// Cancels at every moment, of tickets with few games and with 50, winning and
-/// losing, of jackpot and other kinds; each tried twice and then claimed.
+/// losing, of jackpot and other kinds and with a feature, a roll for each sort;
+/// each is tried twice and then claimed.
 pub fn cancels(seed: u64) -> Vec<Vec<u8>> {
     let mut random = Random::new(seed ^ 0xCA);
+    let sorts: [fn(u8, &[u8]) -> Sale; 3] = [
+        |games, numbers| Sale::new(STANDARD, games, 100, &[&numbers[19..20]], 1),
+        |games, numbers| Sale::new(JACKPOT, games, 100, &[&numbers[14..20]], 1),
+        |games, numbers| Sale::new(STANDARD, games, 100, &[&numbers[19..20]], 1).with_feature(300),
+    ];
+    sorts.into_iter().map(|sale| cancels_of(&mut random, sale)).collect()
+}
+
+fn cancels_of(random: &mut Random, sale: fn(u8, &[u8]) -> Sale) -> Vec<u8> {
     let mut writer = RollWriter::opened();
     for moment in MOMENTS {
-        for (kind, size) in [(STANDARD, 1), (JACKPOT, 6)] {
-            for games in [1, 2, 5, 50] {
-                for wins in [false, true] {
-                    cancel_at(&mut writer, &mut random, moment, kind, size, games, wins);
-                }
+        for games in [1, 2, 5, 50] {
+            for wins in [false, true] {
+                let numbers = random.numbers();
+                // Up to the ticket's numbers, or without them.
+                let from = if wins { 0 } else { 30 };
+                let balls = &numbers[from..from + 20];
+                cancel_at(&mut writer, moment, sale(games, &numbers), balls);
             }
         }
     }
-    vec![writer.finish()]
+    writer.finish()
 }
 
-fn cancel_at(
-    writer: &mut RollWriter,
-    random: &mut Random,
-    moment: Moment,
-    kind: u8,
-    size: usize,
-    games: u8,
-    wins: bool,
-) {
-    let numbers = random.numbers();
-    let from = if wins { 0 } else { 30 };
-    let balls = &numbers[from..from + 20];
+fn cancel_at(writer: &mut RollWriter, moment: Moment, sale: Sale, balls: &[u8]) {
     if let Moment::SoldAndCancelledWhileDrawing = moment {
         writer.balls(&balls[..5]);
     }
-    let ticket = writer.straight(kind, games, 100, &numbers[..size]).number;
+    let games = sale.games;
+    let ticket = writer.give(&Command::Sell(sale)).number;
     match moment {
         Moment::AtOnce | Moment::SoldAndCancelledWhileDrawing => {}
         Moment::FirstBall => writer.balls(&balls[..1]),
@@ -297,6 +307,8 @@ fn expiry_days(random: &mut Random, first_day: u16) -> Vec<u8> {
         let cut_short = writer.straight(STANDARD, 3, 100, &numbers[..2]).number;
         writer.straight(STANDARD, 100, 100, &numbers[..1]);
         writer.straight(JACKPOT, 1, 100, &numbers[..6]);
+        // The last ball is the only one among its numbers.
+        writer.lucky_last(1, 100, 200, &numbers[19..22]);
         writer.balls(&numbers[..20]);
         writer.cancel(cut_short);
         writer.open_after(1);
@@ -313,7 +325,7 @@ fn expiry_days(random: &mut Random, first_day: u16) -> Vec<u8> {
         writer.transfer(random.pick(&[6, 8]), unclaimed / 2);
         writer.transfer(random.pick(&[6, 8]), unclaimed);
     }
-    writer.claim_last(24);
+    writer.claim_last(28);
     writer.finish()
 }
 
@@ -382,9 +394,11 @@ pub fn crowded_lounge(seed: u64) -> Vec<Vec<u8>> {
     for _ticket in 0..most + 1 {
         writer.straight(STANDARD, 2, 100, &drawn[..1]);
     }
+    writer.lucky_last(2, 100, 100, &drawn[..1]);
     writer.cancel(random.between(1, most.into()) as u32);
+    writer.lucky_last(1, 100, 100, &others[..1]);
     writer.straight(STANDARD, 1, 100, &others[..1]);
-    writer.straight(STANDARD, 1, 100, &others[..1]);
+    writer.lucky_last(1, 100, 100, &others[..1]);
     writer.balls(&drawn[..10]);
     writer.straight(STANDARD, 1, 100, &drawn[..1]);
     writer.balls(&drawn[10..]);

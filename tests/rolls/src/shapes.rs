@@ -1,9 +1,9 @@
 //! Tickets that "Ways" and "Price" allow, of every kind and shape.
 
 use crate::random::Random;
-use reference::price::{charge, stake_in_order, MOST_CHARGE};
+use reference::price::{charge, feature_stake_in_order, stake_in_order, MOST_CHARGE};
 use reference::ways::{marks_of, ways};
-use reference::{Cents, Command, Kind};
+use reference::{Cents, Command, Kind, Sale};
 
 pub const STANDARD: u8 = 0;
 pub const JACKPOT: u8 = 1;
@@ -60,6 +60,17 @@ pub fn standard(random: &mut Random) -> Shape {
     Shape { kind: STANDARD, sizes, types: random.between(1, (1 << groups) - 1) as u8 }
 }
 
+/// One way of 1 to 15 numbers, made of all its groups: what can have a feature.
+pub fn one_way(random: &mut Random) -> Shape {
+    loop {
+        let shape = standard(random);
+        let groups = shape.sizes.len();
+        if shape.sizes.iter().sum::<usize>() <= 15 {
+            return Shape { types: 1 << (groups - 1), ..shape };
+        }
+    }
+}
+
 /// A way ticket with two ways or more.
 pub fn special_one(random: &mut Random) -> Shape {
     loop {
@@ -112,25 +123,53 @@ pub fn marks(shape: &Shape, numbers: &[u8]) -> Vec<u8> {
 
 /// A stake that may be played on the shape, small ones more often.
 pub fn stake(random: &mut Random, shape: &Shape, games: u8) -> u32 {
+    stake_beside(random, shape, games, 0)
+}
+
+/// A stake that may be played on the shape together with this feature stake.
+fn stake_beside(random: &mut Random, shape: &Shape, games: u8, feature_stake: u32) -> u32 {
     let ways = count_ways(shape);
     let kind = Kind::from_byte(shape.kind).expect("a kind");
-    let allowed = |stake: &u32| {
-        let cents = Cents::from(*stake);
-        stake_in_order(kind, ways, cents) && charge(cents, ways, games.into()) <= MOST_CHARGE
-    };
-    let stakes: Vec<u32> = STAKES.into_iter().filter(allowed).collect();
+    small_one(random, |stake| {
+        let game_price = stake * ways as Cents + Cents::from(feature_stake);
+        stake_in_order(kind, ways, stake) && charge(game_price, games.into()) <= MOST_CHARGE
+    })
+}
+
+/// One of the allowed stakes, mostly of the smallest three.
+fn small_one(random: &mut Random, allowed: impl Fn(Cents) -> bool) -> u32 {
+    let stakes: Vec<u32> =
+        STAKES.into_iter().filter(|&stake| allowed(Cents::from(stake))).collect();
     let few = if random.percent(70) { stakes.len().min(3) } else { stakes.len() };
     random.pick(&stakes[..few])
 }
 
-/// The Sell of a shape, with its numbers from the front of the list.
-pub fn sell(shape: &Shape, games: u8, stake: u32, numbers: &[u8]) -> Command {
-    Command::Sell {
+/// A sale of the shape, with its numbers from the front of the list.
+pub fn sale(shape: &Shape, games: u8, stake: u32, numbers: &[u8]) -> Sale {
+    Sale {
         kind: shape.kind,
         games,
         stake,
         groups: shape.sizes.len() as u8,
         types: shape.types,
         marks: marks(shape, numbers),
+        feature_stake: None,
     }
+}
+
+/// The Sell of a shape, with its numbers from the front of the list.
+pub fn sell(shape: &Shape, games: u8, stake: u32, numbers: &[u8]) -> Command {
+    Command::Sell(sale(shape, games, stake, numbers))
+}
+
+/// A sale with a feature, of any shape and at any stakes that it may have.
+pub fn sale_with_feature(random: &mut Random, games: u8, numbers: &[u8]) -> Sale {
+    let shape = one_way(random);
+    // The least stake has to go with it.
+    let feature_stake = small_one(random, |feature_stake| {
+        feature_stake_in_order(feature_stake)
+            && charge(feature_stake + 100, games.into()) <= MOST_CHARGE
+    });
+    let stake = stake_beside(random, &shape, games, feature_stake);
+    sale(&shape, games, stake, numbers).with_feature(feature_stake)
 }

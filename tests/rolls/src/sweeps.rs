@@ -6,7 +6,7 @@ use crate::shapes::{JACKPOT, SPECIAL_ONE, SPECIAL_TWO, STANDARD};
 use crate::writer::RollWriter;
 use reference::ledger::LEDGER_BYTES;
 use reference::price::{paid_games, MOST_CHARGE};
-use reference::Command;
+use reference::{Command, Sale};
 
 /// Every kind, size and match, each alone in a game, at a dollar and at three,
 /// where the cap is met.
@@ -67,7 +67,7 @@ pub fn groups_and_types() -> Vec<Vec<u8>> {
             }
             // A stake of 10 only goes with 50 ways or more, 100 with any.
             let stake = if types % 3 == 0 { 10 } else { 100 };
-            sell_and_cancel(&mut writer, &singles(STANDARD, 1, stake, groups, types));
+            writer.sell_and_cancel(&singles(STANDARD, 1, stake, groups, types));
         }
     }
     rolls.push(writer.finish());
@@ -80,14 +80,7 @@ fn singles(kind: u8, games: u8, stake: u32, groups: u8, types: u8) -> Command {
     for group in 1..=groups {
         marks[usize::from(group) * 7] = group;
     }
-    Command::Sell { kind, games, stake, groups, types, marks }
-}
-
-fn sell_and_cancel(writer: &mut RollWriter, sell: &Command) {
-    let sale = writer.give(sell);
-    if sale.code == 0 {
-        writer.cancel(sale.number);
-    }
+    Command::Sell(Sale { kind, games, stake, groups, types, marks, feature_stake: None })
 }
 
 /// Stakes about every limit, on 1 to 255 ways. Groups can make 17 ways and 20,
@@ -144,7 +137,7 @@ pub fn stakes() -> Vec<Vec<u8>> {
         let mut writer = RollWriter::opened();
         for &(groups, types) in part {
             for stake in STAKES {
-                sell_and_cancel(&mut writer, &singles(STANDARD, 1, stake, groups, types));
+                writer.sell_and_cancel(&singles(STANDARD, 1, stake, groups, types));
             }
         }
         jackpot_stakes(&mut writer, &STAKES);
@@ -157,7 +150,7 @@ pub fn stakes() -> Vec<Vec<u8>> {
 fn jackpot_stakes(writer: &mut RollWriter, stakes: &[u32]) {
     let pairs: [&[u8]; 4] = [&[1, 2], &[3, 4], &[5, 6], &[7, 8]];
     for &stake in stakes {
-        sell_and_cancel(writer, &Command::sell(JACKPOT, 1, stake, &pairs, 0b100));
+        writer.sell_and_cancel(&Command::sell(JACKPOT, 1, stake, &pairs, 0b100));
     }
 }
 
@@ -169,7 +162,7 @@ pub fn charges() -> Vec<Vec<u8>> {
         let paid = paid_games(games).max(1);
         let dearest = MOST_CHARGE as u32 / paid / 100 * 100;
         for stake in [100, dearest, dearest + 100] {
-            sell_and_cancel(&mut writer, &singles(STANDARD, games as u8, stake, 1, 1));
+            writer.sell_and_cancel(&singles(STANDARD, games as u8, stake, 1, 1));
         }
     }
     vec![writer.finish()]
@@ -182,12 +175,12 @@ pub fn way_sizes() -> Vec<Vec<u8>> {
     let mut writer = RollWriter::opened();
     for kind in 0..=3 {
         for size in (1..=18).chain([40, 80]) {
-            sell_and_cancel(&mut writer, &Command::sell(kind, 1, 100, &[&numbers[..size]], 1));
+            writer.sell_and_cancel(&Command::sell(kind, 1, 100, &[&numbers[..size]], 1));
         }
         for size in 2..=18 {
             let (one, other) = numbers[..size].split_at(size / 2);
             for types in 1..=3 {
-                sell_and_cancel(&mut writer, &Command::sell(kind, 1, 100, &[one, other], types));
+                writer.sell_and_cancel(&Command::sell(kind, 1, 100, &[one, other], types));
             }
         }
     }

@@ -75,6 +75,25 @@ impl RollWriter {
         self.sell(kind, games, stake, &[numbers], 1)
     }
 
+    /// A ticket of one group with a feature.
+    pub fn lucky_last(
+        &mut self,
+        games: u8,
+        stake: u32,
+        feature_stake: u32,
+        numbers: &[u8],
+    ) -> Answer {
+        self.give(&Command::lucky_last(games, stake, feature_stake, numbers))
+    }
+
+    /// A sale, and where it is accepted its cancel.
+    pub fn sell_and_cancel(&mut self, sale: &Command) {
+        let sold = self.give(sale);
+        if sold.code == 0 {
+            self.cancel(sold.number);
+        }
+    }
+
     pub fn cancel(&mut self, ticket: u32) -> Answer {
         self.give(&Command::Cancel { ticket })
     }

@@ -1,10 +1,10 @@
 //! Every refusal and every stop is met by the rolls, in numbers that mean
 //! something.
 
-use reference::command::{BALL, CLAIM, SELL};
+use reference::command::{BALL, CLAIM, LUCKY_LAST, SELL};
 use reference::House;
 use rolls::coverage::FAR_CODES;
-use rolls::{damaged, everything, mixed, scenarios, Coverage};
+use rolls::{damaged, everything, mixed, scenarios, Coverage, Features};
 
 const SEED: u64 = 1998;
 
@@ -36,6 +36,16 @@ fn mixed_rolls_alone() {
     assert!(coverage.answers(SELL, 0) > 1_000);
     assert!(coverage.answers(BALL, 0) > 10_000);
     assert!(coverage.answers(CLAIM, 0) > 500);
+    assert!(coverage.answers(LUCKY_LAST, 0) > 500);
+}
+
+/// Features are won and missed in paid and in free games, with cuts beside them
+/// and without, on the mixed rolls alone.
+#[test]
+fn every_outcome_of_a_feature_is_met() {
+    let mut features = Features::default();
+    mixed::mixed_set(SEED, 60, 1_000).iter().for_each(|roll| features.count_roll(roll));
+    assert_eq!(features.missing(), [""; 0]);
 }
 
 /// The test of this test: a set without cancels is found wanting.
@@ -44,7 +54,11 @@ fn a_missing_code_is_named() {
     let roll = vec![1, 0, 1, 6];
     let found = covered([&roll], 100).check(&FAR_CODES).unwrap_err();
     assert!(found.contains("command 3 with code 20"));
+    assert!(found.contains("command 8 with code 31"));
     assert!(found.contains("stop 3"));
+    let mut features = Features::default();
+    features.count_roll(&roll);
+    assert_eq!(features.missing().len(), 8);
 }
 
 #[test]

@@ -1,6 +1,6 @@
 //! Two hundred million balls to the last game, where codes 17 and 26 are.
 
-use reference::command::{BALL, SELL};
+use reference::command::{BALL, LUCKY_LAST, SELL};
 use reference::roll::ANSWER_BYTES;
 use reference::{run_roll, House};
 use rolls::{Coverage, FarGames};
@@ -29,6 +29,7 @@ fn the_last_games() {
     let mut coverage = Coverage::new();
     coverage.count_book(&short_book);
     assert!(coverage.answers(SELL, 17) >= 5);
+    assert!(coverage.answers(LUCKY_LAST, 17) >= 5);
     assert_eq!(coverage.answers(BALL, 26), 2);
     assert_eq!(coverage.answers(BALL, 25), 2);
     assert_eq!(coverage.impossible(), [""; 0]);

@@ -4,7 +4,7 @@
 
 use reference::ledger::{ledger, ledger_of};
 use reference::{Flaw, House};
-use rolls::{mixed, scenarios};
+use rolls::{lucky_last, mixed, scenarios};
 
 const SEED: u64 = 1998;
 
@@ -27,6 +27,13 @@ fn scenarios_find_their_flaws() {
         (Flaw::YearOf365Days, scenarios::februaries(SEED)),
         (Flaw::EveryFourthYearLeaps, scenarios::expiries(SEED)),
         (Flaw::EveryFourthYearLeaps, scenarios::februaries(SEED)),
+        (Flaw::FeatureByAnyBall, lucky_last::numbers(SEED)),
+        (Flaw::FeatureByAnyBall, scenarios::keno_to_go(SEED)),
+        (Flaw::NoFeatureInFreeGames, lucky_last::beside_cuts(SEED)),
+        (Flaw::NoFeatureInFreeGames, scenarios::keno_to_go(SEED)),
+        (Flaw::FeatureAmongMajors, lucky_last::beside_cuts(SEED)),
+        (Flaw::FeatureStakeNotRefunded, lucky_last::operands()),
+        (Flaw::FeatureStakeNotRefunded, scenarios::cancels(SEED)),
     ];
     for (flaw, rolls) in sets {
         assert!(finds(flaw, &rolls), "{flaw:?}");

@@ -1,10 +1,10 @@
 //! Each scenario leads where it says it does.
 
-use reference::command::{BALL, CANCEL, CLAIM, EXPIRE, SELL, TRANSFER};
+use reference::command::{BALL, CANCEL, CLAIM, EXPIRE, LUCKY_LAST, SELL, TRANSFER};
 use reference::roll::{read_answer, ANSWER_BYTES};
 use reference::settlement::Settlement;
 use reference::{run_roll, Answer, Closing, Command, House, Kind, Standing};
-use rolls::{scenarios, sweeps};
+use rolls::{lucky_last, scenarios, sweeps, Features};
 use std::collections::BTreeMap;
 
 const SEED: u64 = 1998;
@@ -110,18 +110,45 @@ fn keno_to_go_is_played_to_the_end() {
             let jackpot = ticket.terms.kind == Kind::Jackpot;
             ticket.games.iter().filter(move |game| jackpot && !game.paid)
         });
-        let hit = |standing| matches!(standing, Standing::Drawn { shares, .. } if shares > 0);
+        let hit = |standing| matches!(standing, Standing::Drawn(won) if won.shares > 0);
         assert!(free_hits.filter(|game| hit(game.standing)).count() > 0);
+        let mut features = Features::default();
+        features.count_roll(&roll);
+        for paid in [true, false] {
+            assert!(
+                features.games(true, paid, false) > 0 && features.games(false, paid, false) > 0
+            );
+        }
     }
 }
 
 #[test]
 fn cancels_come_at_every_moment() {
-    let (_, answers) = run(&scenarios::cancels(SEED)[0]);
-    for code in [0, 19, 20, 21, 22] {
-        assert!(count(&answers, CANCEL, code) >= 8, "code {code}");
+    for roll in scenarios::cancels(SEED) {
+        let (_, answers) = run(&roll);
+        for code in [0, 19, 20, 21, 22] {
+            assert!(count(&answers, CANCEL, code) >= 8, "code {code}");
+        }
+        assert!(count(&answers, CLAIM, 0) > 0 && count(&answers, CLAIM, 23) > 0);
     }
-    assert!(count(&answers, CLAIM, 23) > 0);
+}
+
+/// The last of the three rolls: before, while and after drawing, with what was won
+/// and what is refunded told for each ticket.
+#[test]
+fn features_are_cancelled_at_every_moment() {
+    let (house, answers) = run(&scenarios::cancels(SEED)[2]);
+    assert_eq!((count(&answers, SELL, 0), count(&answers, LUCKY_LAST, 0)), (0, 64));
+    let refunds = answers.iter().filter(|(byte, answer)| *byte == CANCEL && answer.cents > 0);
+    for (_, answer) in refunds.clone() {
+        // 100 and the feature's 300, for one to five games or 49.
+        assert!((1..=5).chain([49]).any(|games| answer.cents == 400 * games), "{answer:?}");
+    }
+    assert!(refunds.count() >= 20);
+    // Those of 50 games that stand win in games made for others too.
+    let few_games = house.tickets().iter().filter(|ticket| ticket.terms.games < 50);
+    let won: Vec<i128> = few_games.map(|ticket| ticket.won()).filter(|&won| won > 0).collect();
+    assert!(won.len() >= 15 && won.iter().all(|won| won % (300 + 18_000) == 0), "{won:?}");
 }
 
 #[test]
@@ -138,6 +165,10 @@ fn expiries_take_some_and_leave_some() {
         assert!(count(&answers, TRANSFER, 0) > 0);
         assert!(house.tickets().iter().any(|t| t.closing == Some(Closing::Claimed)), "{set}");
         assert!(house.live_tickets().count() >= 4, "100 games are not finished");
+        let expired = house.tickets().iter().filter(|t| t.closing == Some(Closing::Expired));
+        let features: Vec<i128> =
+            expired.filter(|t| t.terms.feature_stake > 0).map(|t| t.won()).collect();
+        assert!(features.len() >= 2 && features.iter().all(|&won| won == 4_000), "{features:?}");
     }
 }
 
@@ -203,7 +234,8 @@ fn februaries_are_closed_by_the_date() {
 fn the_lounge_is_crowded() {
     let (_, answers) = run(&scenarios::crowded_lounge(SEED)[0]);
     assert!(count(&answers, SELL, 16) >= 4);
-    assert!(count(&answers, SELL, 0) >= 204);
+    assert!(count(&answers, SELL, 0) >= 203);
+    assert_eq!((count(&answers, LUCKY_LAST, 16), count(&answers, LUCKY_LAST, 0)), (2, 1));
 }
 
 #[test]
@@ -229,6 +261,56 @@ fn every_cell_is_sold_and_drawn() {
         assert_eq!(count(&answers, SELL, 0), 135 + 16 + 135 + 22);
         assert_eq!(house.game(), 1 + 135 + 16 + 135 + 22);
     }
+}
+
+/// 1 to 15 numbers, three games each: the feature is won in the first alone, and
+/// pays by rule 21.1.
+#[test]
+fn every_count_of_numbers_has_its_feature_won_and_missed() {
+    for (place, roll) in lucky_last::numbers(SEED).iter().enumerate() {
+        let (house, answers) = run(roll);
+        assert_eq!(count(&answers, LUCKY_LAST, 0), 45);
+        for (index, tickets) in house.tickets().chunks(3).enumerate() {
+            let features = tickets.iter().map(|ticket| match ticket.games[0].standing {
+                Standing::Drawn(winnings) => winnings.feature,
+                standing => panic!("{standing:?}"),
+            });
+            let terms = &tickets[0].terms;
+            assert_eq!(terms.ways[0].len(), index + 1);
+            let prize = reference::prizes::feature_prize(index + 1, terms.feature_stake);
+            assert!(prize > 0 && features.eq([prize, 0, 0]), "roll {place}, {terms:?}");
+        }
+    }
+}
+
+#[test]
+fn features_stand_beside_cuts() {
+    let rolls = lucky_last::beside_cuts(SEED);
+    let mut all = Features::default();
+    for (roll, games) in rolls.iter().zip([49, 50, 99, 100]) {
+        let (house, _) = run(roll);
+        assert_eq!(house.game(), games + 1);
+        assert!(settlements(roll).iter().filter(|game| game.cut).count() >= 4);
+        all.count_roll(roll);
+    }
+    assert_eq!(all.missing(), [""; 0]);
+}
+
+#[test]
+fn feature_sweeps_meet_both_sides_of_each_limit() {
+    let of = |rolls: Vec<Vec<u8>>, code: u8| -> usize {
+        rolls.iter().map(|roll| count(&run(roll).1, LUCKY_LAST, code)).sum()
+    };
+    let operands = |code| of(lucky_last::operands(), code);
+    // Twelve feature stakes at each of three stakes, on 15 shapes: four that may have
+    // the feature, one with too many numbers, two Special Ones of one way.
+    assert_eq!((operands(12), operands(13), operands(31)), (36, 2 * 36, 8 * 36));
+    assert_eq!((operands(14), operands(32)), (4 * 12, 4 * 2 * 7));
+    // 100, 200 and 999,800 go with a stake of 100.
+    assert_eq!((operands(0), operands(15)), (4 * 3, 4 * (2 + 5)));
+    // Three of nine are in order, for nine counts of games.
+    assert_eq!((of(lucky_last::charges(), 0), of(lucky_last::charges(), 15)), (27, 54));
+    assert_eq!(of(lucky_last::charges(), 8), 18);
 }
 
 #[test]

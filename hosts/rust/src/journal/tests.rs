@@ -72,7 +72,7 @@ fn a_whole_journal_comes_back() {
     let sitting = sitting(&rolls());
     assert!(sitting.bytes.len() > 5_000, "{} bytes", sitting.bytes.len());
     comes_back(&sitting.bytes, sitting.ends.last());
-    assert_eq!(opened(&sitting.bytes).unwrap().expect("a header").commands, 360);
+    assert_eq!(opened(&sitting.bytes).unwrap().expect("a header").commands, 371);
 }
 
 /// Every bit, in the header, in lengths, in checksums and in commands, of the first
@@ -170,7 +170,8 @@ fn garbage_is_refused() {
     is_refused(&[&sitting.bytes[..], &format::header()].concat(), "another header");
 }
 
-/// A good checksum over bytes that are no commands: nobody here wrote it.
+/// A good checksum over bytes that are no commands: nobody here wrote it, or a later
+/// program did that knows more of them.
 #[test]
 fn an_append_of_no_commands_is_refused() {
     let header = format::header();

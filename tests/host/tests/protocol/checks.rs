@@ -5,7 +5,7 @@ use crate::Checked;
 use reference::command::length;
 use reference::roll::ANSWER_BYTES;
 use reference::till::FIGURES;
-use reference::{run_roll, Command, House};
+use reference::{run_roll, Command, House, Sale};
 use wulipday::{Refusal, Stop, Till, RULES};
 
 /// Every byte that is a command, its length, and where its operands stand: bytes
@@ -53,7 +53,11 @@ fn read_back(bytes: &[u8]) -> String {
     let found = Command::decode(bytes);
     let (name, expected) = match found {
         Command::Open { .. } => ("Open", Command::Open { day: value("day", 2) as u16 }),
-        Command::Sell { .. } => ("Sell", sampled_sale()),
+        Command::Sell(Sale { feature_stake: None, .. }) => ("Sell", Command::Sell(sampled_sale())),
+        Command::Sell(_) => {
+            let feature_stake = value("feature stake", 4);
+            ("Lucky Last", Command::Sell(sampled_sale().with_feature(feature_stake)))
+        }
         Command::Cancel { .. } => ("Cancel", Command::Cancel { ticket: value("ticket", 4) }),
         Command::Ball { .. } => ("Ball", Command::Ball { number: value("number", 1) as u8 }),
         Command::Claim { .. } => ("Claim", Command::Claim { ticket: value("ticket", 4) }),
@@ -69,14 +73,15 @@ fn read_back(bytes: &[u8]) -> String {
     format!("{name} with other operands")
 }
 
-fn sampled_sale() -> Command {
-    Command::Sell {
+fn sampled_sale() -> Sale {
+    Sale {
         kind: value("kind", 1) as u8,
         games: value("games", 1) as u8,
         stake: value("stake", 4),
         groups: value("groups", 1) as u8,
         types: value("types", 1) as u8,
         marks: sample("marks", 80),
+        feature_stake: None,
     }
 }
 

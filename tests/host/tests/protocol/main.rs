@@ -27,6 +27,7 @@ fn check(document: &Document) -> Checked {
     rules::kinds(document)?;
     rules::prices(document)?;
     rules::schedules(document)?;
+    rules::feature(document)?;
     rules::cuts(document)?;
     rules::jackpots(document)?;
     rules::expiry(document)?;
@@ -76,7 +77,7 @@ fn another_order_is_seen() {
             tried += 1;
         }
     }
-    assert_eq!(tried, 1 + 11 + 5 + 3 + 4 + 3);
+    assert_eq!(tried, 1 + 11 + 5 + 3 + 4 + 3 + 13);
 }
 
 /// And the numbers of a live list.
@@ -96,6 +97,8 @@ fn other_names_are_seen() {
         ("stake 4, groups 1", "groups 1, stake 4"),
         ("| 03 | Cancel |", "| 03 | Claim |"),
         ("| jackpot 1, cents 4 |", "| cents 4, jackpot 1 |"),
+        ("marks 80, feature stake 4", "feature stake 4, marks 80"),
+        ("| 08 | Lucky Last |", "| 08 | Sell |"),
         ("| number |", "| cents |"),
         ("| paid | claims", "| refunded | claims"),
         ("| the ticket is closed |", "| the ticket is open |"),

@@ -5,10 +5,14 @@
 use crate::document::{number, same, Document};
 use crate::Checked;
 use reference::price::{charge, stake_in_order};
-use reference::{Command, House, Kind, Standing, Ticket};
+use reference::{Command, House, Kind, Sale, Standing, Ticket};
 use rolls::RollWriter;
 use std::collections::BTreeSet;
 use std::sync::OnceLock;
+
+/// The commands by their bytes, and what is no command.
+const ASKED: [&str; 9] =
+    ["Open", "Sell", "Cancel", "Ball", "Claim", "Expire", "Transfer", "Lucky Last", "Live list"];
 
 /// Neighbours in an order that never hold together.
 const APART: [(u8, u8); 4] = [(18, 19), (19, 23), (23, 24), (26, 27)];
@@ -26,9 +30,9 @@ pub fn order(document: &Document) -> Checked {
     let cases = CASES.get_or_init(cases);
     let rows = document.table("Asked", "Checked in this order");
     let asked: Vec<&str> = rows.iter().map(|row| row[0]).collect();
-    let names = ["Open", "Sell", "Cancel", "Ball", "Claim", "Expire", "Transfer", "Live list"];
-    same("what is checked", &asked[..], &names[..])?;
-    for (row, byte) in rows.iter().zip(1..=7) {
+    same("what is checked", &asked[..], &ASKED[..])?;
+    let (live_list, commands) = rows.split_last().ok_or("nothing is checked")?;
+    for (row, byte) in commands.iter().zip(1..) {
         let order = codes(row[1])?;
         let cases: Vec<&Case> = cases.iter().filter(|case| case.byte == byte).collect();
         for case in &cases {
@@ -42,7 +46,7 @@ pub fn order(document: &Document) -> Checked {
         shown(row[0], &order, &cases)?;
     }
     let buffer = house_with_a_ticket().live_list(&mut [0; 3]);
-    same("Live list", codes(rows[7][1])?, buffer.err().into_iter().collect())
+    same("Live list", codes(live_list[1])?, buffer.err().into_iter().collect())
 }
 
 fn codes(cell: &str) -> Result<Vec<u8>, String> {
@@ -129,7 +133,8 @@ fn other_commands() -> Vec<Command> {
     commands
 }
 
-/// Every mixture of operands that are in order and operands that are not.
+/// Every mixture of operands that are in order and operands that are not, without a
+/// feature stake and with one.
 fn sales() -> Vec<Command> {
     let sixteen: Vec<u8> = (1..=16).collect();
     let shapes: [(Vec<&[u8]>, u8); 7] = [
@@ -146,33 +151,32 @@ fn sales() -> Vec<Command> {
         for games in [0, 1, 100, 101] {
             for stake in [0, 10, 100, 150, 999_900, 1_000_000, 1_000_050] {
                 for (groups, types) in &shapes {
-                    let sale = Command::sell(kind, games, stake, groups, *types);
+                    let sale = Sale::new(kind, games, stake, groups, *types);
                     sales.extend(other_group_counts(&sale));
                     sales.push(sale);
                 }
             }
         }
     }
-    sales
+    sales.iter().flat_map(with_feature_stakes).map(Command::Sell).collect()
 }
 
 /// The same sale with a count of groups that its marks do not have.
-fn other_group_counts(sale: &Command) -> Vec<Command> {
-    let counts = [0, 1, 9].into_iter().map(|count| {
-        let mut other = sale.clone();
-        if let Command::Sell { groups, .. } = &mut other {
-            *groups = count;
-        }
-        other
-    });
-    counts.collect()
+fn other_group_counts(sale: &Sale) -> [Sale; 3] {
+    [0, 1, 9].map(|groups| Sale { groups, ..sale.clone() })
+}
+
+/// The same sale as it is, and as a Lucky Last.
+fn with_feature_stakes(sale: &Sale) -> [Sale; 5] {
+    let stakes = [None, Some(0), Some(100), Some(150), Some(999_900)];
+    stakes.map(|feature_stake| Sale { feature_stake, ..sale.clone() })
 }
 
 /// The refusals that hold, by what their rows in the document say.
 fn holding(house: &House, command: &Command) -> BTreeSet<u8> {
     let told = match command {
         Command::Open { day } => vec![(5, *day <= house.today()), (6, house.is_drawing())],
-        Command::Sell { .. } => of_a_sale(house, command),
+        Command::Sell(sale) => of_a_sale(house, sale),
         Command::Cancel { ticket } => of_a_cancel(house, *ticket),
         Command::Claim { ticket } => of_a_claim(house, *ticket),
         Command::Ball { number } => vec![
@@ -192,13 +196,12 @@ fn holding(house: &House, command: &Command) -> BTreeSet<u8> {
     told.filter(|(_, holds)| *holds).map(|(code, _)| code).collect()
 }
 
-fn of_a_sale(house: &House, command: &Command) -> Vec<(u8, bool)> {
-    let Command::Sell { kind, games, stake, groups, types, marks } = command else {
-        unreachable!()
-    };
+fn of_a_sale(house: &House, sale: &Sale) -> Vec<(u8, bool)> {
+    let Sale { kind, games, stake, groups, types, marks, feature_stake } = sale;
     let sizes = sizes(*groups, *types, marks);
     let known_kind = Kind::from_byte(*kind);
     let stake = i128::from(*stake);
+    let game_price = stake * sizes.len() as i128 + feature_stake.map_or(0, i128::from);
     let in_order = |kind: Kind| stake_in_order(kind, sizes.len(), stake);
     let is_empty = |group: u8| !marks.contains(&group);
     let last_game = house.game() + u32::from(house.is_drawing()) + u32::from(*games).max(1) - 1;
@@ -211,9 +214,11 @@ fn of_a_sale(house: &House, command: &Command) -> Vec<(u8, bool)> {
         (12, known_kind.is_some_and(|kind| !kind.allows_sizes(&sizes))),
         (13, *kind == 2 && sizes.len() == 1),
         (14, known_kind.is_some_and(|kind| !in_order(kind))),
-        (15, charge(stake, sizes.len(), u32::from(*games)) > 999_900),
+        (15, charge(game_price, u32::from(*games)) > 999_900),
         (16, house.live_tickets().count() >= 200),
         (17, house.issued() >= House::LAST_TICKET || last_game > House::LAST_GAME),
+        (31, feature_stake.is_some() && (*kind != 0 || sizes.len() > 1)),
+        (32, feature_stake.is_some_and(|stake| stake == 0 || stake % 100 != 0)),
     ]
 }
 

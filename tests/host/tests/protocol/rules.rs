@@ -1,11 +1,11 @@
 //! The rules that decide money.
 
-use crate::document::{number, numbers, same, span, Document};
+use crate::document::{number, numbers, same, span, Document, Row};
 use crate::Checked;
 use reference::jackpots::{shares, Jackpots};
 use reference::price::{paid_games, stake_in_order, MOST_CHARGE, MOST_GAMES};
 use reference::prizes::{cut, CAP, MAJOR, MAJORS_TOGETHER};
-use reference::schedule::{special_one, special_two, standard};
+use reference::schedule::{lucky_last, special_one, special_two, standard};
 use reference::{ways, Calendar, Flaw, House, Kind};
 
 pub fn limits(document: &Document) -> Checked {
@@ -88,10 +88,7 @@ fn schedule(
     columns: &[usize],
     dollars: fn(usize, usize) -> u32,
 ) -> Checked {
-    let mut headings = vec!["Matched".to_string()];
-    headings.extend(columns.iter().map(usize::to_string));
-    let headings: Vec<&str> = headings.iter().map(String::as_str).collect();
-    let rows = document.table_with_headings(&headings);
+    let rows = rows_by_numbers(document, "Matched", columns);
     let rows = rows.get(2..).ok_or_else(|| format!("no schedule for {name}"))?;
     let matched: Vec<i128> = rows.iter().map(|row| number(row[0])).collect::<Result<_, _>>()?;
     for hits in 0..=20 {
@@ -105,6 +102,24 @@ fn schedule(
     }
     let rising = matched.windows(2).all(|pair| pair[0] < pair[1]);
     same(&format!("{name}, rows rise"), rising, true)
+}
+
+/// The table with this first heading and a column for each count of numbers.
+fn rows_by_numbers<'a>(document: &Document<'a>, first: &str, columns: &[usize]) -> Vec<Row<'a>> {
+    let columns: Vec<String> = columns.iter().map(usize::to_string).collect();
+    let headings = [first].into_iter().chain(columns.iter().map(String::as_str));
+    document.table_with_headings(&headings.collect::<Vec<&str>>())
+}
+
+/// The schedule of Lucky Last, for every size that a standard way may have.
+pub fn feature(document: &Document) -> Checked {
+    let sizes: Vec<usize> = (1..=80).filter(|&size| Kind::Standard.allows_sizes(&[size])).collect();
+    let rows = rows_by_numbers(document, "Numbers", &sizes);
+    let [_, _, cents] = &rows[..] else { return Err("no schedule for Lucky Last".to_string()) };
+    same("Lucky Last", cents[0], "Cents")?;
+    let said = cents[1..].iter().map(|cell| number(cell)).collect::<Result<Vec<i128>, _>>()?;
+    let paid = sizes.iter().map(|&size| i128::from(lucky_last(size)));
+    same("Lucky Last, cents for a dollar", said, paid.collect())
 }
 
 pub fn cuts(document: &Document) -> Checked {

@@ -1,7 +1,7 @@
 //! Every value of every one-byte operand, and ticket numbers, days and cents
 //! that a slip of a byte would take for others.
 
-use reference::Command;
+use reference::{Command, Sale};
 use rolls::RollWriter;
 
 pub fn edge_rolls() -> Vec<Vec<u8>> {
@@ -21,30 +21,27 @@ fn good_sales() -> Vec<Vec<u8>> {
         Command::sell(1, 1, 100, &pairs, 8),
         Command::sell(2, 100, 100, &triplets, 3),
         Command::sell(3, 3, 100, &pairs, 6),
+        Command::lucky_last(1, 100, 100, &numbers[..15]),
+        Command::Sell(Sale::new(0, 50, 100, &pairs[..3], 4).with_feature(0x0100)),
     ];
     sales.iter().map(Command::encode).collect()
 }
 
-/// Kind, games, stake, groups, types and some marks, one at a time.
+/// Kind, games, stake, groups, types, some marks and a feature stake, a byte at a
+/// time.
 fn sale_operands() -> Vec<u8> {
     let mut writer = RollWriter::opened();
     for sale in good_sales() {
-        for place in [1, 2, 3, 4, 5, 6, 7, 8, 9, 16, 40, 88] {
+        let places = [1, 2, 3, 4, 5, 6, 7, 8, 9, 16, 40, 88, 89, 90, 91, 92];
+        for place in places.into_iter().filter(|&place| place < sale.len()) {
             for value in 0..=255 {
                 let mut sale = sale.clone();
                 sale[place] = value;
-                give_and_take_back(&mut writer, &Command::decode(&sale));
+                writer.sell_and_cancel(&Command::decode(&sale));
             }
         }
     }
     writer.finish()
-}
-
-fn give_and_take_back(writer: &mut RollWriter, sale: &Command) {
-    let answer = writer.give(sale);
-    if answer.code == 0 {
-        writer.cancel(answer.number);
-    }
 }
 
 /// Every number as the first ball, and as a later one.

@@ -1,6 +1,8 @@
 //! Rolls in which the guests know most of the balls: majors in plenty, cuts of
-//! every depth, shared jackpots, and money left for expiry and transfers.
+//! every depth, shared jackpots, features won beside them, and money left for
+//! expiry and transfers.
 
+use reference::Command;
 use rolls::{shapes, Random, RollWriter};
 
 pub fn lucky_rolls(seed: u64, rolls: usize) -> Vec<Vec<u8>> {
@@ -56,10 +58,17 @@ fn lucky_ticket(writer: &mut RollWriter, random: &mut Random, guests: &Guests) {
             std::mem::swap(number, other);
         }
     }
-    let shape = if guests.jackpots { shapes::jackpot(random) } else { shapes::any_shape(random) };
+    let numbers = [front, back].concat();
     let games = random.pick(&[1, 1, 1, 1, 2, 3, 50]);
-    let stake = shapes::stake(random, &shape, games);
-    writer.give(&shapes::sell(&shape, games, stake, &[front, back].concat()));
+    let sale = if !guests.jackpots && random.percent(25) {
+        shapes::sale_with_feature(random, games, &numbers)
+    } else {
+        let shape =
+            if guests.jackpots { shapes::jackpot(random) } else { shapes::any_shape(random) };
+        let stake = shapes::stake(random, &shape, games);
+        shapes::sale(&shape, games, stake, &numbers)
+    };
+    writer.give(&Command::Sell(sale));
 }
 
 /// Unclaimed money goes into a jackpot, whole or in part or one cent too much.

@@ -11,7 +11,7 @@ use reference::command::{length, BALL};
 use reference::roll::{ANSWER_BYTES, STOP_BOOK_FULL};
 use reference::till::FIGURES;
 use reference::{run_roll, Cents, Flaw, House};
-use rolls::Coverage;
+use rolls::{Coverage, Features};
 use std::fmt::Debug;
 use wulipday::{Lounge, Refusal, Report, Stop};
 
@@ -38,6 +38,8 @@ pub struct Counts {
     /// Games in which the cut floored prizes more than once, where commands
     /// were run one by one.
     pub repeated_cuts: u64,
+    /// What became of features there.
+    pub features: Features,
 }
 
 /// How far one roll was read, and the code of its last answer.
@@ -173,6 +175,7 @@ impl Pair {
         if command[0] == BALL && self.house.game() != game {
             let rounds = settlement.map_or(0, |settlement| settlement.cut_rounds);
             self.counts.repeated_cuts += u64::from(rounds > 1);
+            self.counts.features.count_last_game(&self.house);
         }
         Ok(())
     }

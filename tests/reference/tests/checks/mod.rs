@@ -8,6 +8,7 @@
 
 pub mod dates;
 pub mod examples;
+pub mod lucky_last;
 pub mod traps;
 
 use reference::command::{Answer, Command};
@@ -20,7 +21,7 @@ pub type NamedCheck = (&'static str, fn(Flaw) -> Check);
 
 /// Every check, by name.
 pub fn all() -> Vec<NamedCheck> {
-    [examples::ALL, traps::ALL, dates::ALL].concat()
+    [examples::ALL, traps::ALL, dates::ALL, lucky_last::ALL].concat()
 }
 
 pub fn expect<T: PartialEq + Debug>(what: &str, got: T, want: T) -> Check {
@@ -29,6 +30,21 @@ pub fn expect<T: PartialEq + Debug>(what: &str, got: T, want: T) -> Check {
     } else {
         Err(format!("{what}: got {got:?}, want {want:?}"))
     }
+}
+
+/// Gives a command and wants it refused with the code, nothing changed.
+#[track_caller]
+pub fn refused(house: &mut House, command: &Command, code: u8) {
+    let before = house.clone();
+    assert_eq!(house.command(command), Answer::refused(code), "{command:?}");
+    assert!(*house == before, "{command:?} changed the house");
+}
+
+#[track_caller]
+pub fn accepted(house: &mut House, command: &Command) -> Answer {
+    let answer = house.command(command);
+    assert_eq!(answer.code, 0, "{command:?}");
+    answer
 }
 
 /// Groups of numbers on a ticket, as [`Command::sell`] takes them.
@@ -96,6 +112,13 @@ impl Desk {
     pub fn straight(&mut self, kind: u8, games: u8, stake: u32, numbers: &[u8]) -> u32 {
         let answer = self.sell(kind, games, stake, &[numbers], STRAIGHT);
         assert_eq!(answer.code, 0, "sale of a straight ticket");
+        answer.number
+    }
+
+    /// Sells a ticket of one group with a feature; it must be accepted.
+    pub fn lucky_last(&mut self, games: u8, stake: u32, feature_stake: u32, numbers: &[u8]) -> u32 {
+        let answer = self.give(&Command::lucky_last(games, stake, feature_stake, numbers));
+        assert_eq!(answer.code, 0, "sale of a ticket with a feature");
         answer.number
     }
 

@@ -10,10 +10,10 @@ use Rattle.house.proofs.rows.put_words.Statement.{statement}
 use Rattle.house.proofs.rows.put_words.Tie as tie
 
 abbrev Inv-loop : tie.InvT-loop
-Inv-loop rows₀ at words k₀ rows k = (k ≤ 15) × (rows ≡ sets rows₀ at (take k words))
+Inv-loop rows₀ at words k₀ rows k = (k ≤ 16) × (rows ≡ sets rows₀ at (take k words))
 
 abbrev μ-loop : tie.MeasureT-loop
-μ-loop rows₀ at words k₀ rows k = 15 - k
+μ-loop rows₀ at words k₀ rows k = 16 - k
 
 loop-holds : tie.Need-loop-holds Inv-loop μ-loop
 loop-holds c = (search needs, refl)

@@ -1,4 +1,4 @@
--- `house::rows::write_row` meets its contract: the fifteen words, in the order of the definition.
+-- `house::rows::write_row` meets its contract: the sixteen words, in the order of the definition.
 use Rattle.house.specs.View.{putRow}
 use borrow.Author.Needs.{needs}
 use Rattle.house.proofs.rows.write_row.Statement.{statement}

@@ -1,5 +1,5 @@
--- `house::ticket::paid_for` meets its contract: a free game costs nothing, nor does one that the ticket does not run in; of another its whole stakes
--- are paid.
+-- `house::ticket::paid_for` meets its contract: a free game costs nothing, nor does one that the ticket does not run in; of another its whole price
+-- is paid.
 use Prim.Native.Nat.{ℕ, _+_, _-_, _*_, _≤_, _<_, min}
 use mathlib.Core.Path.{_≡_, refl, sym, ap, _∙_}
 use mathlib.Core.Bool.{Bool, true, false, cond}
@@ -8,25 +8,25 @@ use native.Mathlib.Omega.{arith}
 use borrow.Author.Needs.{needs}
 use borrow.Author.Tests.{not-true, not-false}
 use Rattle.sale.specs.Price.{charge}
-use Rattle.house.specs.Tickets.{Ticket, runsIn, paidStakes}
+use Rattle.house.specs.Tickets.{Ticket, runsIn, ticketPrice, paidStakes}
 use Rattle.house.specs.View.{ticketFrom}
 use Rattle.house.proofs.ticket.paid_for.Statement.{statement}
 use Rattle.house.proofs.ticket.paid_for.Tie as tie
 
 module _ (game : ℕ) (t : Ticket) where
-  stakes-of-game : (paid : ℕ) → min (game + 1) (t .free) - min game (t .free) ≡ paid → paidStakes game (game + 1) t ≡ t .operands .stake * t .ways * paid
+  stakes-of-game : (paid : ℕ) → min (game + 1) (t .free) - min game (t .free) ≡ paid → paidStakes game (game + 1) t ≡ ticketPrice t * paid
   unfolding paidStakes charge
-  stakes-of-game paid e = ap (λ n. t .operands .stake * t .ways * n) e
+  stakes-of-game paid e = ap (λ n. ticketPrice t * n) e
 
   free : t .free ≤ game → 0 ≡ cond (runsIn game t) (paidStakes game (game + 1) t) 0
-  free past = rw (stakes-of-game 0 (omega arith), mul-zero (t .operands .stake * t .ways)) (go (runsIn game t))
+  free past = rw (stakes-of-game 0 (omega arith), mul-zero (ticketPrice t)) (go (runsIn game t))
     where
       go : (b : Bool) → 0 ≡ cond {A = ℕ} b 0 0
       go true = refl
       go false = refl
 
-  whole : game < t .free → runsIn game t ≡ true → t .operands .stake * t .ways ≡ cond (runsIn game t) (paidStakes game (game + 1) t) 0
-  whole before runs = rw runs (sym (stakes-of-game 1 (omega arith) ∙ mul-one (t .operands .stake * t .ways)))
+  whole : game < t .free → runsIn game t ≡ true → ticketPrice t ≡ cond (runsIn game t) (paidStakes game (game + 1) t) 0
+  whole before runs = rw runs (sym (stakes-of-game 1 (omega arith) ∙ mul-one (ticketPrice t)))
 
 returns : tie.Need-returns
 returns c = λ marks.
@@ -39,14 +39,15 @@ runs-in-requires c κs = search needs
 returns-2 : tie.Need-returns-2
 returns-2 c = λ marks. rw (sym (c .before .runs-in .ensures marks) ∙ not-true _ (c .if2 .taken))
 
-mul-result : tie.Need-mul-result
-mul-result c = search needs
+game-price-requires : tie.Need-game-price-requires
+game-price-requires c κs = c .before .before .before .before .pre
 
 returns-3 : tie.Need-returns-3
 returns-3 c = λ marks.
     let asked = c .before .before in
     let args = asked .before .before .before .args in
-    whole (args .game) (ticketFrom (args .row) marks) (asked .before .if1 .left) (sym (asked .runs-in .ensures marks) ∙ not-false _ (c .before .if2 .left))
+    c .game-price .ensures marks
+    ∙ whole (args .game) (ticketFrom (args .row) marks) (asked .before .if1 .left) (sym (asked .runs-in .ensures marks) ∙ not-false _ (c .before .if2 .left))
 
 pub paid-for-spec : {M : Type 1} → statement M
-paid-for-spec = tie.close (tie.spec returns runs-in-requires returns-2 mul-result returns-3)
+paid-for-spec = tie.close (tie.spec returns runs-in-requires returns-2 game-price-requires returns-3)

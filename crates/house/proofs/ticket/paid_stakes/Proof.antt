@@ -1,5 +1,5 @@
--- `house::ticket::paid_stakes` meets its contract: nothing is paid from the first free game on, and where some game is paid, the stakes of one are at
--- most those of all.
+-- `house::ticket::paid_stakes` meets its contract: nothing is paid from the first free game on, and where some game is paid, the price of one is at
+-- most that of all.
 use Prim.Native.Nat.{ℕ, _≤_, _-_, _*_, min}
 use mathlib.Core.Path.{_≡_, sym, ap, _∙_}
 use mathlib.Core.List.{List, []}
@@ -7,29 +7,29 @@ use native.Mathlib.Nat.{mul-le-mul-left, mul-one}
 use native.Mathlib.Omega.{arith}
 use borrow.Author.Needs.{needs}
 use Rattle.sale.specs.Price.{charge, chargeLimit}
-use Rattle.house.specs.Tickets.{Ticket, paidStakes}
-use Rattle.house.specs.View.{ticketFrom}
+use Rattle.house.specs.Tickets.{Ticket, ticketPrice, paidStakes}
+use Rattle.house.specs.View.{ticketFrom, Affordable}
 use Rattle.house.proofs.SpanLaws.{charge-none}
 use Rattle.house.proofs.ticket.paid_stakes.Statement.{statement}
 use Rattle.house.proofs.ticket.paid_stakes.Tie as tie
 
 module _ (from upto : ℕ) (t : Ticket) where
   -- as many games as are paid
-  by-games : (games : ℕ) → games ≡ min upto (t .free) - min from (t .free) → t .operands .stake * t .ways * games ≡ paidStakes from upto t
+  by-games : (games : ℕ) → games ≡ min upto (t .free) - min from (t .free) → ticketPrice t * games ≡ paidStakes from upto t
   unfolding paidStakes charge
-  by-games games e = ap (charge (t .operands .stake) (t .ways)) e
+  by-games games e = ap (charge (ticketPrice t)) e
 
   none : min upto (t .free) - min from (t .free) ≡ 0 → 0 ≡ paidStakes from upto t
   unfolding paidStakes
-  none e = sym (ap (charge (t .operands .stake) (t .ways)) e ∙ charge-none (t .operands .stake) (t .ways))
+  none e = sym (ap (charge (ticketPrice t)) e ∙ charge-none (ticketPrice t))
 
-  -- a game's stakes
-  one-within : 1 ≤ min upto (t .free) - min from (t .free) → paidStakes from upto t ≤ chargeLimit → t .operands .stake * t .ways ≤ chargeLimit
+  -- the price of a game
+  one-within : 1 ≤ min upto (t .free) - min from (t .free) → paidStakes from upto t ≤ chargeLimit → ticketPrice t ≤ chargeLimit
   unfolding paidStakes charge
   one-within some within =
-      let stakes = t .operands .stake * t .ways in
-      let one : stakes * 1 ≤ stakes * (min upto (t .free) - min from (t .free)) = mul-le-mul-left stakes some in
-      omega (arith, one, mul-one stakes, within)
+      let price = ticketPrice t in
+      let one : price * 1 ≤ price * (min upto (t .free) - min from (t .free)) = mul-le-mul-left price some in
+      omega (arith, one, mul-one price, within)
 
 returns : tie.Need-returns
 returns c = λ marks.
@@ -41,27 +41,36 @@ returns-2 c = λ marks.
     let args = c .before .before .before .args in
     none (args .from) (args .upto) (ticketFrom (args .row) marks) (omega (arith, c .if2 .taken))
 
--- the games before the first free one
-mul-result : tie.Need-mul-result
-mul-result c =
-    let later = c .before .before .before in
-    let start = later .before .before .before in
+-- where a game is paid, its price is within the limit
+price-fits : (c : tie.Else2) → Affordable (c .before .before .before .args .row)
+price-fits c =
+    let start = c .before .before .before in
     let args = start .args in
-    omega (arith, one-within (args .from) (args .upto) (ticketFrom (args .row) []) (omega (arith, later .if2 .left, later .before .if1 .left)) (start .pre .within))
+    record {
+      within =
+          one-within (args .from) (args .upto) (ticketFrom (args .row) [])
+          (omega (arith, c .if2 .left, c .before .if1 .left))
+          (start .pre .within);
+    }
+
+-- the games before the first free one
+game-price-requires : tie.Need-game-price-requires
+game-price-requires c κs = price-fits (c .before .before)
 
 sub-result : tie.Need-sub-result
 sub-result c = search needs
 
-to-free : (c : tie.After-struct-known3) (marks : List ℕ) →
+to-free : (c : tie.After-game-price) (marks : List ℕ) →
     let args = c .before .before .before .before .before .before .args in
-    args .row .stake * args .row .ways * (args .row .free - args .from) ≡ paidStakes (args .from) (args .upto) (ticketFrom (args .row) marks)
+    c .game-price .result * (args .row .free - args .from) ≡ paidStakes (args .from) (args .upto) (ticketFrom (args .row) marks)
 to-free c marks =
     let later = c .before .before .before in
     let args = later .before .before .before .args in
-    by-games (args .from) (args .upto) (ticketFrom (args .row) marks) (args .row .free - args .from) (omega (arith, later .before .if1 .left, c .before .if3 .taken))
+    ap (λ n. n * (args .row .free - args .from)) (c .game-price .ensures marks)
+    ∙ by-games (args .from) (args .upto) (ticketFrom (args .row) marks) (args .row .free - args .from) (omega (arith, later .before .if1 .left, c .before .if3 .taken))
 
-mul-result-2 : tie.Need-mul-result-2
-mul-result-2 c =
+mul-result : tie.Need-mul-result
+mul-result c =
     let start = c .before .before .before .before .before .before .before in
     omega (arith, to-free (c .before) [], start .pre .within)
 
@@ -69,26 +78,23 @@ returns-3 : tie.Need-returns-3
 returns-3 c = λ marks. to-free (c .before) marks
 
 -- all of them
-mul-result-3 : tie.Need-mul-result-3
-mul-result-3 c =
-    let later = c .before .before .before in
-    let start = later .before .before .before in
-    let args = start .args in
-    omega (arith, one-within (args .from) (args .upto) (ticketFrom (args .row) []) (omega (arith, later .if2 .left, later .before .if1 .left)) (start .pre .within))
+game-price-requires-2 : tie.Need-game-price-requires-2
+game-price-requires-2 c κs = price-fits (c .before .before)
 
 sub-result-2 : tie.Need-sub-result-2
 sub-result-2 c = search needs
 
-to-end : (c : tie.After-struct-known5) (marks : List ℕ) →
+to-end : (c : tie.After-game-price2) (marks : List ℕ) →
     let args = c .before .before .before .before .before .before .args in
-    args .row .stake * args .row .ways * (args .upto - args .from) ≡ paidStakes (args .from) (args .upto) (ticketFrom (args .row) marks)
+    c .game-price2 .result * (args .upto - args .from) ≡ paidStakes (args .from) (args .upto) (ticketFrom (args .row) marks)
 to-end c marks =
     let later = c .before .before .before in
     let args = later .before .before .before .args in
-    by-games (args .from) (args .upto) (ticketFrom (args .row) marks) (args .upto - args .from) (omega (arith, later .before .if1 .left, c .before .if3 .left))
+    ap (λ n. n * (args .upto - args .from)) (c .game-price2 .ensures marks)
+    ∙ by-games (args .from) (args .upto) (ticketFrom (args .row) marks) (args .upto - args .from) (omega (arith, later .before .if1 .left, c .before .if3 .left))
 
-mul-result-4 : tie.Need-mul-result-4
-mul-result-4 c =
+mul-result-2 : tie.Need-mul-result-2
+mul-result-2 c =
     let start = c .before .before .before .before .before .before in
     omega (arith, to-end c [], start .pre .within)
 
@@ -101,11 +107,11 @@ paid-stakes-spec =
     (tie.spec
     returns
     returns-2
-    mul-result
+    game-price-requires
     sub-result
-    mul-result-2
+    mul-result
     returns-3
-    mul-result-3
+    game-price-requires-2
     sub-result-2
-    mul-result-4
+    mul-result-2
     returns-4)

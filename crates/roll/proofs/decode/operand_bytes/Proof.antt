@@ -35,9 +35,13 @@ unfolding commandRows rowAmong
 returns-7 c = ap (λ b. operandLength (commandRow b)) (sym (c .match .keys7))
 
 returns-8 : tie.Need-returns-8
+unfolding commandRows rowAmong
+returns-8 c = ap (λ b. operandLength (commandRow b)) (sym (c .match .keys8))
+
+returns-9 : tie.Need-returns-9
 unfolding commandRows
-returns-8 c = sym (ap operandLength (other-row (c .before .args .byte) (c .match .rest)))
+returns-9 c = sym (ap operandLength (other-row (c .before .args .byte) (c .match .rest)))
 
 pub operand-bytes-spec : {M : Type 1} → statement M
 operand-bytes-spec =
-    tie.close (tie.spec returns returns-2 returns-3 returns-4 returns-5 returns-6 returns-7 returns-8)
+    tie.close (tie.spec returns returns-2 returns-3 returns-4 returns-5 returns-6 returns-7 returns-8 returns-9)

@@ -38,17 +38,17 @@ read-u32-requires : tie.Need-read-u32-requires
 unfolding commandRows rowAmong
 read-u32-requires c κs = omega (arith, ap operandBytes (c .match .keys3))
 
-shared-slice-read-t13 : tie.Need-shared-slice-read-t13
+shared-slice-read-t14 : tie.Need-shared-slice-read-t14
 unfolding commandRows rowAmong
-shared-slice-read-t13 c = omega (arith, ap operandBytes (c .before .match .keys4))
+shared-slice-read-t14 c = omega (arith, ap operandBytes (c .before .match .keys4))
 
 read-u32-requires-2 : tie.Need-read-u32-requires-2
 unfolding commandRows rowAmong
 read-u32-requires-2 c κs = omega (arith, ap operandBytes (c .match .keys5))
 
-shared-slice-read-t19 : tie.Need-shared-slice-read-t19
+shared-slice-read-t20 : tie.Need-shared-slice-read-t20
 unfolding commandRows rowAmong
-shared-slice-read-t19 c = omega (arith, ap operandBytes (c .before .match .keys7))
+shared-slice-read-t20 c = omega (arith, ap operandBytes (c .before .match .keys7))
 
 add-read-u32 : tie.Need-add-read-u32
 add-read-u32 c = search needs
@@ -56,6 +56,10 @@ add-read-u32 c = search needs
 read-u32-requires-3 : tie.Need-read-u32-requires-3
 unfolding commandRows rowAmong
 read-u32-requires-3 c κs = omega (arith, ap operandBytes (c .before .match .keys7))
+
+lucky-last-at-requires : tie.Need-lucky-last-at-requires
+unfolding commandRows rowAmong
+lucky-last-at-requires c κs = omega (arith, ap operandBytes (c .match .keys8))
 
 returns : tie.Need-returns
 unfolding commandRows rowAmong
@@ -67,7 +71,7 @@ returns-2 : tie.Need-returns-2
 unfolding commandRows rowAmong
 returns-2 c =
     let args = c .before .before .before .args in
-    ap (λ command. Whole command (args .size)) (ap Sell (c .sale-at .ensures)) ∙ row (args .byte) 2 (drop (args .at) (args .roll .now)) (args .size) (c .before .match .keys2)
+    ap (λ command. Whole command (args .size)) (ap Sell (c .sale-at .ensures 88 (omega arith))) ∙ row (args .byte) 2 (drop (args .at) (args .roll .now)) (args .size) (c .before .match .keys2)
 
 returns-3 : tie.Need-returns-3
 unfolding commandRows rowAmong
@@ -103,8 +107,14 @@ returns-7 c =
     ∙ row (args .byte) 7 (drop (args .at) l) (args .size) (c .before .before .match .keys7)
 
 returns-8 : tie.Need-returns-8
-unfolding commandRows
+unfolding commandRows rowAmong
 returns-8 c =
+    let args = c .before .before .before .args in
+    ap (λ command. Whole command (args .size)) (ap Sell (c .lucky-last-at .ensures)) ∙ row (args .byte) 8 (drop (args .at) (args .roll .now)) (args .size) (c .before .match .keys8)
+
+returns-9 : tie.Need-returns-9
+unfolding commandRows
+returns-9 c =
     let args = c .before .before .args in
     sym (ap (λ looked. decodedBy looked (drop (args .at) (args .roll .now)) (args .size)) (other-row (args .byte) (c .match .rest)))
 
@@ -115,11 +125,12 @@ order-at-spec =
     read-u16-requires
     sale-at-requires
     read-u32-requires
-    shared-slice-read-t13
+    shared-slice-read-t14
     read-u32-requires-2
-    shared-slice-read-t19
+    shared-slice-read-t20
     add-read-u32
     read-u32-requires-3
+    lucky-last-at-requires
     returns
     returns-2
     returns-3
@@ -127,4 +138,5 @@ order-at-spec =
     returns-5
     returns-6
     returns-7
-    returns-8)
+    returns-8
+    returns-9)

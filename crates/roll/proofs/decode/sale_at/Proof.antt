@@ -10,31 +10,31 @@ add-read-u32 c = search needs
 read-u32-requires : tie.Need-read-u32-requires
 read-u32-requires c κs = search needs
 
-shared-slice-read-t6 : tie.Need-shared-slice-read-t6
-shared-slice-read-t6 c = search needs
+shared-slice-read-t7 : tie.Need-shared-slice-read-t7
+shared-slice-read-t7 c = search needs
 
-add-t4 : tie.Need-add-t4
-add-t4 c = search needs
+add-t5 : tie.Need-add-t5
+add-t5 c = search needs
 
-shared-slice-read-t8 : tie.Need-shared-slice-read-t8
-shared-slice-read-t8 c = search needs
+shared-slice-read-t9 : tie.Need-shared-slice-read-t9
+shared-slice-read-t9 c = search needs
 
-add-t9 : tie.Need-add-t9
-add-t9 c = search needs
+add-t10 : tie.Need-add-t10
+add-t10 c = search needs
 
-shared-slice-read-t11 : tie.Need-shared-slice-read-t11
-shared-slice-read-t11 c = search needs
+shared-slice-read-t12 : tie.Need-shared-slice-read-t12
+shared-slice-read-t12 c = search needs
 
-add-t12 : tie.Need-add-t12
-add-t12 c = search needs
+add-t13 : tie.Need-add-t13
+add-t13 c = search needs
 
-shared-slice-read-t14 : tie.Need-shared-slice-read-t14
-shared-slice-read-t14 c = search needs
+shared-slice-read-t15 : tie.Need-shared-slice-read-t15
+shared-slice-read-t15 c = search needs
 
 returns : tie.Need-returns
-returns c =
+returns c = λ n room.
     let start = c .before .before .before .before .before .before in
-    sale-in (start .args .roll .now) (start .args .at) (c .before .before .before .before .read-u32 .result)
+    sale-in n room (start .args .feature) (start .args .roll .now) (start .args .at) (c .before .before .before .before .read-u32 .result)
     (c .before .before .before .before .read-u32 .ensures)
 
 pub sale-at-spec : {M : Type 1} → statement M
@@ -43,11 +43,11 @@ sale-at-spec =
     (tie.spec
     add-read-u32
     read-u32-requires
-    shared-slice-read-t6
-    add-t4
-    shared-slice-read-t8
-    add-t9
-    shared-slice-read-t11
-    add-t12
-    shared-slice-read-t14
+    shared-slice-read-t7
+    add-t5
+    shared-slice-read-t9
+    add-t10
+    shared-slice-read-t12
+    add-t13
+    shared-slice-read-t15
     returns)

@@ -18,12 +18,12 @@ use Rattle.commands.specs.declared.command.Command.{Command}
 use Rattle.house.proofs.Theorem.{reached-step}
 use Rattle.roll.specs.Decode.{recordOf}
 use Rattle.roll.specs.Reading.{Reading, AllRefused}
-use Rattle.roll.specs.Orders.{operandBytes, stopOf, readingOf, Reported}
+use Rattle.roll.specs.Orders.{stopOf, readingOf, Reported}
 use Rattle.roll.specs.declared.reader.Report.{Report}
 use Rattle.roll.specs.declared.decode.Decoded.the-variants.{Stop}
-use Rattle.roll.proofs.DecodeLaws.{Stands, stands}
+use Rattle.roll.proofs.DecodeLaws.{Stands, stands, size-apart}
 use Rattle.roll.proofs.AnswerBounds.{refused-plain}
-use Rattle.roll.proofs.ReadingLaws.{Ahead, Ended, refused-here, ahead-starts, ahead-stops, ahead-full, ahead-more, command-within, operands-within, part-written, book-long, record-long, verdict-accepted, verdict-refused}
+use Rattle.roll.proofs.ReadingLaws.{Ahead, Ended, refused-here, ahead-starts, ahead-stops, ahead-full, ahead-more, command-within, part-written, book-long, record-long, verdict-accepted, verdict-refused}
 use Rattle.roll.proofs.reader.read_roll.Statement.{statement}
 use Rattle.roll.proofs.reader.read_roll.Tie as tie
 
@@ -63,9 +63,6 @@ module _ (c : tie.After-known-told Inv-loop μ-loop) where
 
   ends-within : turn .loop .read + size ≤ length roll
   ends-within = command-within _ _ _ _ _ _ _ (turn .loop .inv .1) _ _ command-stands
-
-  operands-here : turn .loop .read + 1 + operandBytes (getD roll (turn .loop .read) 0) ≤ length roll
-  operands-here = operands-within _ _ _ _ _ _ _ (turn .loop .inv .1) _ _ command-stands
 
   moves-on : length roll - (turn .loop .read + size) < length roll - turn .loop .read
   moves-on = omega (arith, ends-within, command-stands .long)
@@ -121,11 +118,8 @@ returns-2 c =
 shared-slice-read-byte : tie.Need-shared-slice-read-byte Inv-loop μ-loop
 shared-slice-read-byte c = omega (arith, ends-within (c .before .before), command-stands (c .before .before) .long)
 
-add-marks-of : tie.Need-add-marks-of Inv-loop μ-loop
-add-marks-of c = search needs
-
 marks-of-requires : tie.Need-marks-of-requires Inv-loop μ-loop
-marks-of-requires c κs = operands-here (c .before .before)
+marks-of-requires c κs = (size-apart (command-stands (c .before .before)), ends-within (c .before .before))
 
 carry-out-requires : tie.Need-carry-out-requires Inv-loop μ-loop
 carry-out-requires c κs = search needs
@@ -291,7 +285,6 @@ read-roll-spec =
     same-length-2
     returns-2
     shared-slice-read-byte
-    add-marks-of
     marks-of-requires
     carry-out-requires
     add-read

@@ -49,7 +49,7 @@ paid-for-requires : tie.Need-paid-for-requires Inv-loop μ-loop
 paid-for-requires c κs =
     let rows = c .before .before .before .pre .0 in
     let i = c .before .before .loop .i in
-    subst⁻¹ Affordable (c .read-row .ensures) (record { within = rows .within i (c .before .loop-test .taken) })
+    subst⁻¹ Affordable (c .read-row .ensures) (rows .within i (c .before .loop-test .taken))
 
 mul-prizes : tie.Need-mul-prizes Inv-loop μ-loop
 mul-prizes c = omega (arith, c .before .before .before .before .pre .0 .few)

@@ -55,7 +55,7 @@ matches c =
     matches-by (s .args .house) (s .args .rows .now) (s .args .marks .now) (draw s) (prizeTable c) (matchTable c) (prized c)
 
 find-prizes-requires : tie.Need-find-prizes-requires
-find-prizes-requires c κs = c .before .before .pre .reached
+find-prizes-requires c κs = c .before .before .pre
 
 -- the sum of the table is that of the prizes
 total : (c : tie.After-find-prizes) → sum (take (startOf c .args .house .live) (prizeTable c)) ≡ settledBy (draw (startOf c)) (model (startOf c)) .prizes

@@ -6,7 +6,8 @@ use borrow.Author.Needs.{needs}
 use Rattle.prizes.specs.Jackpots.{shareOf, sharesFrom}
 use Rattle.prizes.proofs.ShareLaws.{winningWays}
 use Rattle.settlement.specs.Sharing.{winnerAt, winnersIn}
-use Rattle.settlement.proofs.SharingLaws.{ways-none, ways-more, sharing-at, share-most, joinedTo, given-none, given-next, given-more, given-all, row-count, row-sharing, row-share}
+use Rattle.settlement.proofs.JoinedTables.{joinedTo}
+use Rattle.settlement.proofs.SharingLaws.{ways-none, ways-more, sharing-at, share-most, given-none, given-next, given-more, given-all, row-count, row-sharing, row-share}
 use Rattle.settlement.proofs.shares.add_shares.Statement.{statement}
 use Rattle.settlement.proofs.shares.add_shares.Tie as tie
 

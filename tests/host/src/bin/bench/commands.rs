@@ -16,8 +16,9 @@ pub fn cases() -> Vec<Case> {
         Case::repeated("ball, games without tickets", opened(), 0, 2_000, |index| Command::Ball {
             number: (index % 20) as u8 + 1,
         }),
-        sales("sale of one way", &[&[1, 2, 3]], 1),
-        sales("sale of 255 ways", &singles(&eight), 255),
+        sales("sale of one way", &Command::sell(0, 1, 100, &[&[1, 2, 3]], 1)),
+        sales("sale of one way with a feature", &Command::lucky_last(1, 100, 100, &[1, 2, 3])),
+        sales("sale of 255 ways", &Command::sell(0, 1, 100, &singles(&eight), 255)),
     ]
 }
 
@@ -26,6 +27,6 @@ fn opened() -> Vec<u8> {
 }
 
 /// 200 sales fill the house.
-fn sales(name: &str, groups: &[&[u8]], types: u8) -> Case {
-    Case::repeated(name, opened(), 0, 200, |_| Command::sell(0, 1, 100, groups, types))
+fn sales(name: &str, sale: &Command) -> Case {
+    Case::repeated(name, opened(), 0, 200, |_| sale.clone())
 }

@@ -10,6 +10,7 @@ pub fn cases() -> Vec<Case> {
     let crowded = scenarios::crowded_cuts(1);
     vec![
         one_way(),
+        one_way_with_a_feature(),
         three_groups(),
         last_ball("settlement, 200 x 255 ways, cut in 4 rounds", &crowded[1]),
         majors(249),
@@ -21,34 +22,46 @@ pub fn cases() -> Vec<Case> {
 /// Nobody has more than two numbers.
 pub fn uncut(tickets: u32) -> Case {
     let name = format!("settlement, {tickets} x 255 ways, uncut");
-    two_hits(&name, tickets, |writer, numbers| {
+    two_hits(&name, tickets, [1, 2], |writer, numbers| {
         writer.sell(0, 1, 10, &singles(&numbers[..8]), 255);
     })
 }
 
 /// One group of six numbers.
 fn one_way() -> Case {
-    two_hits("settlement, 200 x 1 way", 200, |writer, numbers| {
+    two_hits("settlement, 200 x 1 way", 200, [1, 2], |writer, numbers| {
         writer.straight(0, 1, 100, &numbers[..6]);
+    })
+}
+
+/// The same, and everybody has the last ball.
+fn one_way_with_a_feature() -> Case {
+    two_hits("settlement, 200 x 1 way with a feature", 200, [1, 20], |writer, numbers| {
+        writer.lucky_last(1, 100, 100, &numbers[..6]);
     })
 }
 
 /// Three groups of two numbers, alone and in pairs.
 fn three_groups() -> Case {
-    two_hits("settlement, 200 x 6 ways", 200, |writer, numbers| {
+    two_hits("settlement, 200 x 6 ways", 200, [1, 2], |writer, numbers| {
         let groups: Vec<&[u8]> = numbers[..6].chunks(2).collect();
         writer.sell(0, 1, 50, &groups, 3);
     })
 }
 
-/// Tickets that have balls 1 and 2 first and no other ball.
-fn two_hits(name: &str, tickets: u32, sell: impl Fn(&mut RollWriter, &[u8])) -> Case {
+/// Tickets that have these two balls first and no other ball.
+fn two_hits(
+    name: &str,
+    tickets: u32,
+    hits: [u8; 2],
+    sell: impl Fn(&mut RollWriter, &[u8]),
+) -> Case {
     let mut random = Random::new(1);
     let mut writer = RollWriter::opened();
     for _ticket in 0..tickets {
         let mut numbers: Vec<u8> = (21..=80).collect();
         random.shuffle(&mut numbers);
-        numbers[..2].copy_from_slice(&[1, 2]);
+        numbers[..2].copy_from_slice(&hits);
         sell(&mut writer, &numbers);
     }
     writer.balls(&twenty());

@@ -1,4 +1,4 @@
--- `settlement::payouts::find_prizes` meets its contract: 250 major prizes or more are paid what is sure; fewer stand in the table, whose cut pays what the
+-- `settlement::payouts::find_payouts` meets its contract: 250 major prizes or more are paid what is sure; fewer stand in the table, whose cut pays what the
 -- rule pays, and are raised to that. Without live tickets there is nothing to pay.
 use Prim.Native.Nat.{ℕ}
 use native.Mathlib.Omega.{arith}
@@ -8,11 +8,11 @@ use lib.ListN.{length, take}
 use Rattle.house.specs.Tickets.{Ticket}
 use Rattle.house.specs.View.{view}
 use Rattle.house.proofs.ViewLaws.{live-count}
-use Rattle.settlement.specs.Settling.{spread, prizesIn, fullIn}
+use Rattle.settlement.specs.Settling.{spread, payoutsIn, fullIn}
 use Rattle.settlement.specs.Passing.{SoldAll, Cutting, prizesBelow}
-use Rattle.settlement.proofs.PassSteps.{reached-sold, found-count, many-paid, found-listed, found-cutting, raised-prized}
-use Rattle.settlement.proofs.payouts.find_prizes.Statement.{statement}
-use Rattle.settlement.proofs.payouts.find_prizes.Tie as tie
+use Rattle.settlement.proofs.PassSteps.{reached-sold, found-count, many-paid, found-listed, found-cutting, raised-paid}
+use Rattle.settlement.proofs.payouts.find_payouts.Statement.{statement}
+use Rattle.settlement.proofs.payouts.find_payouts.Tie as tie
 
 abbrev startOf : tie.After-find-all → tie.Start
 startOf c = c .before .before .before .before .before .before
@@ -32,7 +32,7 @@ returns c =
     let m = view (args .house) (args .rows .now) (args .marks .now) in
     let none : length (m .live) ≡ 0 = live-count (args .house) (args .rows .now) (args .marks .now) ∙ c .if1 .taken in
     record {
-      prizes = nothing (m .game) (prizesIn (m .game) (args .draw) (m .live)) (args .paid .now) (m .live) none;
+      payouts = nothing (m .game) (payoutsIn (m .game) (args .draw) (m .live)) (args .paid .now) (m .live) none;
       matches = nothing (m .game) (fullIn (m .game) (args .draw) (m .live)) (args .full .now) (m .live) none;
     }
 
@@ -44,7 +44,7 @@ returns-2 c =
     let found = c .before in
     let start = startOf found in
     let args = start .args in
-    raised-prized (args .house) (args .rows .now) (args .marks .now) (args .draw) (sold start) (found .find-all .ensures)
+    raised-paid (args .house) (args .rows .now) (args .marks .now) (args .draw) (sold start) (found .find-all .ensures)
     (many-paid (args .house) (args .rows .now) (args .marks .now) (args .draw) (sold start) (found .find-all .ensures) (c .if2 .taken))
 
 cut-of-requires : tie.Need-cut-of-requires
@@ -84,12 +84,12 @@ returns-3 c =
     let found = cut .before .before .before in
     let start = startOf found in
     let args = start .args in
-    raised-prized (args .house) (args .rows .now) (args .marks .now) (args .draw) (sold start) (found .find-all .ensures)
+    raised-paid (args .house) (args .rows .now) (args .marks .now) (args .draw) (sold start) (found .find-all .ensures)
     (c .raise-all .ensures
     (prizesBelow (args .rows .now) (args .marks .now) (args .house .game) (args .draw) (args .house .live))
     (found-count (args .house) (args .rows .now) (args .marks .now) (args .draw) (sold start) (found .find-all .ensures))
     (cutting cut))
 
-pub find-prizes-spec : {M : Type 1} → statement M
-find-prizes-spec =
+pub find-payouts-spec : {M : Type 1} → statement M
+find-payouts-spec =
     tie.close (tie.spec returns find-all-requires returns-2 cut-of-requires raise-all-requires returns-3)
