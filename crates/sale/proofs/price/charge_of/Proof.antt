@@ -7,6 +7,10 @@ use Rattle.sale.specs.Price.{gamePrice, charge}
 use Rattle.sale.proofs.price.charge_of.Statement.{statement}
 use Rattle.sale.proofs.price.charge_of.Tie as tie
 
+returns : tie.Need-returns
+unfolding gamePrice charge
+returns c = refl
+
 stakes : (c : tie.Start) → c .args .stake * c .args .count ≤ 4294967295 * 255
 stakes c =
     let stake : c .args .stake ≤ 4294967295 = omega arith in
@@ -25,10 +29,6 @@ mul-result-2 : tie.Need-mul-result-2
 mul-result-2 c =
     let paid : c .args .paid ≤ 255 = omega arith in
     omega (arith, mul-le-mul (price c) paid)
-
-returns : tie.Need-returns
-unfolding gamePrice charge
-returns c = refl
 
 pub charge-of-spec : {M : Type 1} → statement M
 charge-of-spec = tie.close (tie.spec mul-result add-result mul-result-2 returns)
