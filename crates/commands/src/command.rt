@@ -16,7 +16,7 @@ use tickets::expire::expire_tickets;
 use tickets::sell::sell_ticket;
 
 // The commands with their operands, at their width on a roll. A sale with a feature is the command Lucky Last.
-#[derive(Drop)]
+#[derive(Clone, Copy)]
 pub enum Command {
     Open(u16),
     Sell(Sale),

@@ -1,4 +1,7 @@
 // The house for hosts in Rust or C: plain numbers, structs, arrays and bytes. The host keeps the house, the rows and the marks from call to call, as one call left them, and starts from a fresh house.
+
+#![tactic(auto)]
+
 ghost use Rattle.std.specs.Prelude.{◌≡◌, List, ℕ};
 ghost use Rattle.house.specs.Balance.{Reached};
 ghost use Rattle.house.specs.Model.{fresh};

@@ -33,6 +33,7 @@ below_has (suc n) m h = go (ltb m n) refl (below_has n m)
 
 some_kept : (f : ℕ → Bool) (xs : List ℕ) (x : ℕ) → Memᴰ x xs → f x ≡ true → 1 ≤ length (keep f xs)
 unfolding keep
+some_kept f [] x among passes = elim among [ ]
 some_kept f (y ∷ ys) x (Memᴰ.head same) passes = rw (ap f (sym same) ∙ passes) (omega arith)
 some_kept f (y ∷ ys) x (Memᴰ.tail later) passes = go (f y) (some_kept f ys x later passes)
   where

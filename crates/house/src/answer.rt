@@ -5,7 +5,7 @@ use crate::state::House;
 
 // 0 or the refusal's number, and the number and cents of document 01's table.
 #[repr(C)]
-#[derive(Drop)]
+#[derive(Clone, Copy)]
 pub struct Answer {
     pub code: u8,
     pub number: u32,
@@ -14,7 +14,7 @@ pub struct Answer {
 
 // The house after a command, and its answer.
 #[repr(C)]
-#[derive(Drop)]
+#[derive(Clone, Copy)]
 pub struct Outcome {
     pub house: House,
     pub answer: Answer,

@@ -24,7 +24,7 @@ pub fn known_marks(marks: &[u8; 16000])
 fn lent_marks(_: &[u8]) {}
 
 // The words of a ticket.
-#[derive(Drop)]
+#[derive(Clone, Copy)]
 pub struct Row {
     pub number: u64,
     pub kind: u64,

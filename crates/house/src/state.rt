@@ -7,7 +7,7 @@ use prizes::jackpot::Jackpot;
 
 // The figures of the till that no ticket or pool tells. Retained is gained less lost.
 #[repr(C)]
-#[derive(Drop)]
+#[derive(Clone, Copy)]
 pub struct Counters {
     pub taken: u64,
     pub seeds: u64,
@@ -20,7 +20,7 @@ pub struct Counters {
 
 // Day, current game and its balls, tickets issued, live tickets, the jackpots and the counters.
 #[repr(C)]
-#[derive(Drop)]
+#[derive(Clone, Copy)]
 pub struct House {
     pub day: u64,
     pub game: u64,

@@ -1,4 +1,7 @@
 // Reads a roll from standard input, its first 65,536 bytes, runs it from a fresh house, and prints its answers, the stop code and the till.
+
+#![tactic(auto)]
+
 ghost use Rattle.std.specs.Prelude.{◌*◌, ◌≤◌, length};
 ghost use Rattle.house.specs.Balance.{Reached};
 ghost use Rattle.house.specs.View.{view};

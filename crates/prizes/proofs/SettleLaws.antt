@@ -296,6 +296,7 @@ prizes_of_within majors draw e most each =
 pub entry_major : (draw : Draw) (e : Entry) (es : List Entry) (p : ℕ) → Memᴰ e es →
     member p (way_prizes draw e) ≡ true → is_major p ≡ true → member p (majors_of draw es) ≡ true
 unfolding majors_of
+entry_major draw e [] p among m major = elim among [ ]
 entry_major draw e (x ∷ es) p (Memᴰ.head same) m major =
     member_left p (keep is_major (way_prizes draw x)) (majors_of draw es)
     (member_keep is_major p (way_prizes draw x) (rw same at m) major)

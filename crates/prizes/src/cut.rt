@@ -14,7 +14,7 @@ pub const MAJORS_LIMIT: u64 = 5_000_000;
 pub const FLOORS_IN_LIMIT: u64 = 250;
 
 // A round of the cut: the floored prizes are those below `below`, `count` of them, and the others make `base` cents.
-#[derive(Drop)]
+#[derive(Clone, Copy)]
 pub struct Cut {
     pub below: u64,
     pub count: u64,

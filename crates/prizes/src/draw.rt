@@ -3,7 +3,7 @@ ghost use Rattle.std.specs.Prelude.{◌≡◌};
 ghost use Rattle.prizes.specs.Hits.{draw_of};
 
 // The numbers drawn in a game, in the order of the draw, and the one of them that came last.
-#[derive(Drop)]
+#[derive(Clone, Copy)]
 pub struct Draw {
     pub balls: [u8; 20],
     pub last: u8,

@@ -17,7 +17,7 @@ use sale::ways;
 
 // Of a ticket's ways: the cents that they are paid in any case, of each major prize the floor; how many match all their numbers; and how many
 // major prizes there are, with those of the tickets before.
-#[derive(Drop)]
+#[derive(Clone, Copy)]
 pub struct Found {
     pub sure: u64,
     pub full: u64,

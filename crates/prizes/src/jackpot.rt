@@ -5,7 +5,7 @@ ghost use Rattle.prizes.specs.Jackpots.{fresh_jackpot, contributed, share_of, se
 
 // Three pools and the seed debt, in cents.
 #[repr(C)]
-#[derive(Drop)]
+#[derive(Clone, Copy)]
 pub struct Jackpot {
     pub primary: u64,
     pub secondary: u64,

@@ -1,4 +1,7 @@
 // The rule book of prizes: schedules, prizes, the cut of major prizes, Lucky Last, and the jackpots.
+
+#![tactic(auto)]
+
 pub mod cut;
 pub mod draw;
 mod figures;

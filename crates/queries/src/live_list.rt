@@ -11,7 +11,7 @@ use numbers::bytes::write_u32;
 
 // 0 with the number of live tickets, or the refusal's number.
 #[repr(C)]
-#[derive(Drop)]
+#[derive(Clone, Copy)]
 pub struct Listed {
     pub code: u8,
     pub count: u32,

@@ -13,7 +13,7 @@ use prizes::jackpot::Jackpot;
 
 // The nine figures in document 01's order. Retained is its size, and `negative` says whether it is below zero.
 #[repr(C)]
-#[derive(Drop)]
+#[derive(Clone, Copy)]
 pub struct Till {
     pub taken: u64,
     pub seeds: u64,
@@ -29,7 +29,7 @@ pub struct Till {
 
 // The pools and the debt of each jackpot.
 #[repr(C)]
-#[derive(Drop)]
+#[derive(Clone, Copy)]
 pub struct Pools {
     pub six: Jackpot,
     pub eight: Jackpot,

@@ -8,7 +8,7 @@ use numbers::bytes::{read_u16, read_u32};
 use sale::terms::{Feature, Sale};
 
 // A whole command with its length, its command byte included; or the stop code where there is none. A sale's marks stay in the roll.
-#[derive(Drop)]
+#[derive(Clone, Copy)]
 pub enum Decoded {
     Whole(Command, usize),
     Stop(u8),
@@ -40,7 +40,7 @@ fn lucky_last_at(roll: &[u8], at: usize) -> Sale
 }
 
 // How many operand bytes follow a command byte, or that the byte is unknown.
-#[derive(Drop)]
+#[derive(Clone, Copy)]
 enum OperandLength {
     Bytes(usize),
     Unknown,

@@ -13,7 +13,7 @@ use house::state::House;
 
 // The house after a roll, the stop code, the bytes of the answered commands, and how many answers were written.
 #[repr(C)]
-#[derive(Drop)]
+#[derive(Clone, Copy)]
 pub struct Report {
     pub house: House,
     pub stop: u8,
@@ -22,7 +22,7 @@ pub struct Report {
 }
 
 // How a command ended: accepted, with its number and cents, or refused.
-#[derive(Drop)]
+#[derive(Clone, Copy)]
 enum Verdict {
     Accepted(u32, u64),
     Refused(u8),

@@ -13,7 +13,7 @@ use crate::terms::{Feature, Kind, Sale};
 
 // A sale's operands, checked: 0 with the number of ways, the paid games, the charge, the jackpot that they play for and the sizes of the groups
 // in one word, or the refusal's number.
-#[derive(Drop)]
+#[derive(Clone, Copy)]
 pub struct Quote {
     pub code: u8,
     pub ways: u32,
@@ -24,21 +24,21 @@ pub struct Quote {
 }
 
 // The check of the marks: 0 with the sizes of the groups, or the refusal's number.
-#[derive(Drop)]
+#[derive(Clone, Copy)]
 struct MarksCheck {
     code: u8,
     sizes: [u8; 8],
 }
 
 // The check of the ways: 0 with what was seen of them, or the refusal's number.
-#[derive(Drop)]
+#[derive(Clone, Copy)]
 struct WaysCheck {
     code: u8,
     survey: Survey,
 }
 
 // The check of the price: 0 with the paid games and the charge, or the refusal's number.
-#[derive(Drop)]
+#[derive(Clone, Copy)]
 struct PriceCheck {
     code: u8,
     paid: u8,

@@ -14,7 +14,7 @@ use crate::ways;
 use numbers::order::{max_u32, min_u32};
 
 // Of a ticket's ways: how many, and the smallest and the largest number that one selects. With no way, the smallest is 255 and the largest 0.
-#[derive(Drop)]
+#[derive(Clone, Copy)]
 pub struct Survey {
     pub count: u32,
     pub least: u32,

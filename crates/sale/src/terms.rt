@@ -4,14 +4,14 @@ ghost use Rattle.sale.specs.Kinds.{kind_of, kind_number, is_jackpot, is_special_
 ghost use Rattle.sale.specs.Checks.{has_feature, feature_stake};
 
 // The schedule that a special entry plays for: rule 18.2 or rule 18.3.
-#[derive(Drop)]
+#[derive(Clone, Copy)]
 pub enum Schedule {
     One,
     Two,
 }
 
 // Document 01's kinds: 0 standard, 1 jackpot, 2 Special One, 3 Special Two.
-#[derive(Drop)]
+#[derive(Clone, Copy)]
 pub enum Kind {
     Standard,
     Jackpot,
@@ -19,14 +19,14 @@ pub enum Kind {
 }
 
 // What a sale enters beside its ways: nothing, or Lucky Last (rule 21.1 of the Tasmanian rules) with its stake for a game.
-#[derive(Drop)]
+#[derive(Clone, Copy)]
 pub enum Feature {
     Absent,
     LuckyLast(u32),
 }
 
 // A sale's operands as the caller gives them, but for the marks, which stand beside them.
-#[derive(Drop)]
+#[derive(Clone, Copy)]
 pub struct Sale {
     pub kind: u8,
     pub games: u8,
@@ -37,7 +37,7 @@ pub struct Sale {
 }
 
 // What a ticket plays for. Its 80 marks stand beside it.
-#[derive(Drop)]
+#[derive(Clone, Copy)]
 pub struct Terms {
     pub kind: Kind,
     pub games: u8,

@@ -57,6 +57,7 @@ member_append (y ∷ xs) ys x (Memᴰ.head e) = inl (Memᴰ.head e)
 member_append (y ∷ xs) ys x (Memᴰ.tail m) = ⊎_elim (λ k. inl (Memᴰ.tail k)) (λ k. inr k) (member_append xs ys x m)
 
 member_left : {A : Type 0} (xs ys : List A) (x : A) → Memᴰ x xs → Memᴰ x (xs ++ ys)
+member_left [] ys x m = elim m [ ]
 member_left (y ∷ xs) ys x (Memᴰ.head e) = Memᴰ.head e
 member_left (y ∷ xs) ys x (Memᴰ.tail m) = Memᴰ.tail (member_left xs ys x m)
 

@@ -9,7 +9,7 @@ use house::rows::{Row, read_row};
 use house::ticket::paid_for;
 
 // Of the tickets that play for a jackpot: what they paid for the game, and the stakes of their ways that match in full.
-#[derive(Drop)]
+#[derive(Clone, Copy)]
 pub struct Stakes {
     pub jackpot: u64,
     pub paid: u64,
@@ -17,7 +17,7 @@ pub struct Stakes {
 }
 
 // The prizes of all tickets, what they paid for the game, and the part of those that play for a jackpot.
-#[derive(Drop)]
+#[derive(Clone, Copy)]
 pub struct GameFigures {
     pub prizes: u64,
     pub stakes: u64,

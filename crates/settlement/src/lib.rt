@@ -1,4 +1,7 @@
 // The settlement of a drawn game: prizes with their cut, stakes and jackpots.
+
+#![tactic(auto)]
+
 mod features;
 mod figures;
 mod payouts;

@@ -9,7 +9,7 @@ use house::state::House;
 use prizes::draw::Draw;
 
 // The prizes as cut, the paid stakes of the game, and the two jackpots' parts of it.
-#[derive(Drop)]
+#[derive(Clone, Copy)]
 pub struct Settlement {
     pub prizes: u64,
     pub stakes: u64,

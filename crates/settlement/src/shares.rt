@@ -16,7 +16,7 @@ use house::state::House;
 use prizes::jackpot::{Jackpot, ticket_share};
 
 // The jackpot after the game, the shares together, and the totals that the till takes in.
-#[derive(Drop)]
+#[derive(Clone, Copy)]
 pub struct Part {
     pub after: Jackpot,
     pub shares: u64,

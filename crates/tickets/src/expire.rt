@@ -14,7 +14,7 @@ use house::state::House;
 use house::ticket::is_expired;
 
 // How many tickets stay, and the dues of the others.
-#[derive(Drop)]
+#[derive(Clone, Copy)]
 struct Sweep {
     left: usize,
     cents: u64,

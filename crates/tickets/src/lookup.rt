@@ -9,14 +9,14 @@ use house::rows::{Row, place_of, read_row};
 use house::state::House;
 
 // The refusal, or 0 and the ticket's place among the live ones.
-#[derive(Drop)]
+#[derive(Clone, Copy)]
 struct Place {
     code: u8,
     place: usize,
 }
 
 // The same with the row at that place, which is the ticket's where nothing is refused.
-#[derive(Drop)]
+#[derive(Clone, Copy)]
 pub struct Lookup {
     pub code: u8,
     pub place: usize,
