@@ -1,0 +1,17 @@
+-- `draw::ball::is_in` meets its contract: the number is none of the balls passed.
+use Prim.Native.Nat.{ℕ, ◌≤◌, ◌-◌}
+use native.Mathlib.Omega.{arith}
+use mathlib.Core.Path.{◌≡◌, sym, ap, ◌∙◌, subst}
+use mathlib.Core.Bool.{false}
+use mathlib.Core.List.{map}
+use lib.ListN.{get_or}
+use Rattle.sale.specs.Lists.{below, any, member}
+use Rattle.settlement.proofs.TablePlaces.{table_more}
+use Rattle.draw.proofs.BallLaws.{member_later, member_table}
+use Rattle.draw.proofs.ball.is_in.Given as goal
+
+abbrev pub invariant-loop-i : goal.invariant-loop-i
+invariant-loop-i l = (l.i ≤ l.drawn) × (member l.number (map (λ k. get_or l.balls k 0) (below l.i)) ≡ false)
+
+abbrev pub decreases-loop-i : goal.decreases-loop-i
+decreases-loop-i l = l.drawn - l.i

@@ -1,0 +1,6 @@
+-- `draw::game_end::paid_row` meets its contract: the finishing day is the house's question about a ticket.
+use borrow.Author.Rules.{rules}
+use Rattle.draw.proofs.game_end.paid_row.Goals as goal
+
+pub returns : goal.returns
+returns c = λ m. c.Finished-on.ensures m

@@ -1,0 +1,67 @@
+-- `prizes::majors::last_round` meets its contract: each turn is a round of the rule, on a state that the rule comes to, and floors more or is the
+-- last. The measure is the number of prizes that are not floored.
+use Prim.Native.Nat.{◌-◌, ◌<◌}
+use mathlib.Core.Path.{◌≡◌, sym, ap, subst, ◌∙◌}
+use native.Mathlib.Omega.{arith}
+use lib.ListN.{length, take}
+use borrow.Author.Rules.{rules}
+use Rattle.prizes.specs.Cut.{majors_limit}
+use Rattle.prizes.specs.Bounds.{Cuttable}
+use Rattle.prizes.specs.Rounds.{next_below, cut_below, Listed}
+use Rattle.prizes.specs.declared.cut.Cut.{Cut}
+use Rattle.prizes.proofs.MajorLaws.{Follows, first_follows, round_follows, round_grows, last_pays, rest_small, total_small}
+use Rattle.prizes.proofs.majors.last_round.Goals as goal
+use Rattle.prizes.proofs.majors.last_round.Lts
+use Rattle.prizes.proofs.majors.last_round.Reads
+use Rattle.prizes.proofs.majors.last_round.Tie
+
+abbrev After-cut_below-next : Type 0
+After-cut_below-next = Lts.After-cut_below Tie.the-claims Reads.Pre Reads.Post goal.the-invariant-loop-cut goal.the-decreases-loop-cut
+
+
+pub loop-cut-init : goal.loop-cut-init
+loop-cut-init c l =
+    let args = c.args in
+    subst (λ (x : Cut). Follows args.majors.now args.count l x × Cuttable x) (sym c.first-cut.ensures) (
+      first_follows args.majors.now args.count l args.total c.requires.1.total,
+      record { small = omega (arith, c.requires.1.total, total_small args.majors.now args.count l) },
+    )
+
+pub next_below-requires : goal.next_below-requires
+next_below-requires c = (c.loop-cut.invariant c.requires.0).1
+
+pub cut_below-next-requires : goal.cut_below-next-requires
+cut_below-next-requires c = c.requires.0
+
+-- what was found is the next round's state
+round : (c : After-cut_below-next)
+    → c.cut_below-next.result
+    ≡ cut_below (next_below c.loop-cut.cut) (take c.args.count c.args.majors.now)
+round c =
+    let args = c.args in
+    c.cut_below-next.ensures ∙ ap (λ n. cut_below n (take args.count args.majors.now)) c.next_below.ensures
+
+pub returns-then-next-cut : goal.returns-then-next-cut
+returns-then-next-cut c =
+    let turn = c.loop-cut in
+    let args = c.args in
+    last_pays args.majors.now args.count c.requires.0 turn.cut (turn.invariant c.requires.0).0 c.cut_below-next.result (round c.before.before.before)
+    (subst (λ n. majors_limit < n) c.requires.1.total c.requires.1.past) c.if-next-cut.true
+
+pub loop-cut-smaller : goal.loop-cut-smaller
+loop-cut-smaller c =
+    let turn = c.loop-cut in
+    let args = c.args in
+    let grows =
+    round_grows args.majors.now args.count c.requires.0 turn.cut (turn.invariant c.requires.0).0 c.cut_below-next.result
+    (round c.before.before.before) c.if-next-cut.false in
+    omega (arith, grows.0, grows.1)
+
+pub loop-cut-preserved : goal.loop-cut-preserved
+loop-cut-preserved c l =
+    let turn = c.loop-cut in
+    let args = c.args in (
+      round_follows args.majors.now args.count l turn.cut (turn.invariant l).0 c.cut_below-next.result (round c.before.before.before),
+      subst Cuttable (sym (round c.before.before.before))
+          (record { small = omega (arith, rest_small args.majors.now args.count l (next_below turn.cut)) }),
+    )

@@ -1,0 +1,15 @@
+-- `queries::till::till_of` meets its contract: the counters are the view's, and the sums over tickets and pools are those of the till.
+use Rattle.queries.proofs.TillLaws.{pooled_fits, shown_till_lem}
+use borrow.Author.Rules.{rules}
+use Rattle.queries.proofs.till.till_of.Goals as goal
+
+pub pooled_in-requires : goal.pooled_in-requires
+pooled_in-requires c =
+    pooled_fits c.args.house c.args.rows.now c.requires
+
+pub returns : goal.returns
+returns c = λ marks.
+    let args = c.args in
+    shown_till_lem args.house args.rows.now marks
+    c.owed_of.result c.held_of.result c.pooled_in.result c.apart.result
+    (c.owed_of.ensures marks) (c.held_of.ensures marks) c.pooled_in.ensures c.apart.ensures
