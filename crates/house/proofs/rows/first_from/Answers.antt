@@ -46,4 +46,4 @@ loop-low-preserved c =
 pub returns : goal.returns
 returns c =
     let turn = c.loop-low in
-    (omega arith, (turn.invariant.2, λ k a b. turn.invariant.3 k (omega arith) b))
+    record { within = omega arith; before = turn.invariant.2; after = λ k a b. turn.invariant.3 k (omega arith) b }

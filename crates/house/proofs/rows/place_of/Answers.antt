@@ -13,7 +13,7 @@ pub returns-then-live-place : goal.returns-then-live-place
 returns-then-live-place c = λ m.
     let args = c.args in
     sym (place_of_none args.rows.now m args.live c.requires.few args.number
-    (λ k b e. omega (arith, c.first_from-place.ensures.1.0 k (omega arith))))
+    (λ k b e. omega (arith, c.first_from-place.ensures.before k (omega arith))))
 
 pub overflow_mul-at : goal.overflow_mul-at
 overflow_mul-at c = omega (arith, c.requires.few)
@@ -30,10 +30,10 @@ returns-then-rows-at c = λ m.
     let place = c.first_from-place.result in
     sym (place_of_none args.rows.now m args.live c.requires.few args.number
     (λ k b e. ⊎_elim
-    (λ early. omega (arith, c.first_from-place.ensures.1.0 k early))
+    (λ early. omega (arith, c.first_from-place.ensures.before k early))
     (λ late. ⊎_elim
     (λ same. c.if-rows-at.true (sym (ap (λ k. get_or args.rows.now (k * 16) 0) same) ∙ e))
-    (λ other. omega (arith, c.first_from-place.ensures.1.1 place (omega arith) (omega arith), c.requires.rising place k (omega arith) b))
+    (λ other. omega (arith, c.first_from-place.ensures.after place (omega arith) (omega arith), c.requires.rising place k (omega arith) b))
     (equal_or_not k place))
     (earlier_or_not k place)))
 
@@ -41,4 +41,4 @@ pub returns : goal.returns
 returns c = λ m.
     let args = c.args in
     sym (place_of_row args.rows.now m args.live c.requires.few args.number c.first_from-place.result (omega arith) c.if-rows-at.false
-    (λ k b e. omega (arith, c.first_from-place.ensures.1.0 k b)))
+    (λ k b e. omega (arith, c.first_from-place.ensures.before k b)))

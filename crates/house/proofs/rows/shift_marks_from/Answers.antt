@@ -7,4 +7,4 @@ use Rattle.house.proofs.rows.shift_marks_from.Goals as goal
 pub returns : goal.returns
 returns c =
     let args = c.args in
-    shifted_part 80 args.marks.now c.shift_marks.new.0 args.at args.count (omega (arith, c.requires)) c.shift_marks.ensures
+    shifted_part 80 args.marks.now c.shift_marks.new.marks args.at args.count (omega (arith, c.requires)) c.shift_marks.ensures

@@ -7,4 +7,4 @@ use Rattle.house.proofs.rows.shift_words_from.Goals as goal
 pub returns : goal.returns
 returns c =
     let args = c.args in
-    shifted_part 16 args.words.now c.shift_words.new.0 args.at args.count (omega (arith, c.requires)) c.shift_words.ensures
+    shifted_part 16 args.words.now c.shift_words.new.words args.at args.count (omega (arith, c.requires)) c.shift_words.ensures

@@ -6,5 +6,5 @@ use Rattle.numbers.proofs.bytes.write_u64.Goals as goal
 pub returns : goal.returns
 returns c =
     let args = c.args in
-    eight_stored args.buffer.now c.write_u32.new.0 c.write_u32-2.new.0 args.at args.number c.requires.ends
+    eight_stored args.buffer.now c.write_u32.new.buffer c.write_u32-2.new.buffer args.at args.number c.requires.ends
     c.write_u32.ensures c.write_u32-2.ensures

@@ -5,19 +5,9 @@ use borrow.Author.Rules.{rules}
 use Rattle.queries.proofs.TillLaws.{rows_few}
 use Rattle.queries.proofs.ListingLaws.{number_small, listing_refused, listing_written}
 use Rattle.queries.proofs.live_list.live_list.Goals as goal
-use Rattle.queries.proofs.live_list.live_list.Lts
-use Rattle.queries.proofs.live_list.live_list.Reads
-use Rattle.queries.proofs.live_list.live_list.Tie
-
-abbrev At-Start : Type 0
-At-Start = Lts.Start Tie.the-claims Reads.Pre Reads.Post
-
-
-few : (c : At-Start) → c.args.house.live ≤ 200
-few c = rows_few c.args.house c.args.rows.now c.requires
 
 pub overflow_mul-live : goal.overflow_mul-live
-overflow_mul-live c = omega (arith, few c.before)
+overflow_mul-live c = omega (arith, rows_few c.args.house c.args.rows.now c.requires)
 
 pub returns-then-out-live : goal.returns-then-out-live
 returns-then-out-live c = λ marks.
@@ -26,13 +16,13 @@ returns-then-out-live c = λ marks.
 
 pub write_numbers-requires : goal.write_numbers-requires
 write_numbers-requires c =
-    (few c.before.before.before, omega arith, number_small c.args.house c.args.rows.now c.requires)
+    (rows_few c.args.house c.args.rows.now c.requires, omega arith, number_small c.args.house c.args.rows.now c.requires)
 
 pub overflow_cast-result : goal.overflow_cast-result
-overflow_cast-result c = omega (arith, few c.before.before.before.before.before.before)
+overflow_cast-result c = omega (arith, rows_few c.args.house c.args.rows.now c.requires)
 
 pub returns : goal.returns
 returns c = λ marks.
     let args = c.args in
     listing_written args.house args.rows.now c.requires marks args.out.now (omega arith)
-    c.write_numbers.new.1.1.0 c.write_numbers.ensures
+    c.write_numbers.new.out c.write_numbers.ensures

@@ -1,33 +1,28 @@
 -- `queries::live_list::write_numbers` meets its contract: each turn writes one number more behind the others.
-use Prim.Native.Nat.{◌+◌, ◌*◌}
+use Prim.Native.Nat.{ℕ, ◌+◌, ◌*◌}
 use mathlib.Core.Path.{◌≡◌, refl, ap, ◌∙◌}
 use native.Mathlib.Omega.{arith}
 use borrow.Author.Rules.{rules}
-use mathlib.Core.List.{◌++◌}
+use mathlib.Core.List.{List, ◌++◌}
 use lib.ListN.{length, take, drop}
 use Rattle.numbers.specs.Bytes.{bytes_of}
 use Rattle.house.specs.declared.rows.Row.{Row}
+use Rattle.house.specs.View.{row_at}
 use Rattle.queries.proofs.ListingLaws.{number_at, listed_to, listed_none, listed_more}
 use Rattle.queries.proofs.live_list.write_numbers.Goals as goal
-use Rattle.queries.proofs.live_list.write_numbers.Lts
-use Rattle.queries.proofs.live_list.write_numbers.Reads
-use Rattle.queries.proofs.live_list.write_numbers.Tie
-
-abbrev After-read_row-row : Type 0
-After-read_row-row = Lts.After-read_row Tie.the-claims Reads.Pre Reads.Post goal.the-invariant-loop-left goal.the-decreases-loop-left
 
 
 pub loop-left-init : goal.loop-left-init
 loop-left-init c = (omega arith, refl, listed_none (number_at c.args.rows.now) c.args.out.now)
 
--- the row's number
-row_number : (c : After-read_row-row) → c.read_row-row.result.number ≡ number_at c.args.rows.now c.loop-left.i
-row_number c = ap (λ (w : Row). w.number) c.read_row-row.ensures
+-- the number in a row that was read
+row_number : (rows : List ℕ) (i : ℕ) (row : Row) → row ≡ row_at rows i → row.number ≡ number_at rows i
+row_number rows i row same = ap (λ (w : Row). w.number) same
 
 pub overflow_cast-row : goal.overflow_cast-row
 overflow_cast-row c =
     let turn = c.loop-left in
-    record { fits = omega (arith, c.requires.2 turn.i (omega arith), row_number c.before.before) }
+    record { fits = omega (arith, c.requires.2 turn.i (omega arith), row_number c.args.rows.now c.loop-left.i c.read_row-row.result c.read_row-row.ensures) }
 
 pub write_u32-requires : goal.write_u32-requires
 write_u32-requires c =
@@ -40,9 +35,9 @@ loop-left-preserved c =
     let args = c.args in
     let turn = c.loop-left in (
       omega arith,
-      put.auto.0 ∙ turn.invariant.1,
+      put.auto.buffer ∙ turn.invariant.1,
       put.ensures
-          ∙ ap (λ n. take (turn.i * 4) turn.out ++ bytes_of 4 n ++ drop (turn.i * 4 + 4) turn.out) (row_number c.before.before.before.before.before)
+          ∙ ap (λ n. take (turn.i * 4) turn.out ++ bytes_of 4 n ++ drop (turn.i * 4 + 4) turn.out) (row_number c.args.rows.now c.loop-left.i c.read_row-row.result c.read_row-row.ensures)
           ∙ ap (λ l. take (turn.i * 4) l ++ bytes_of 4 (number_at args.rows.now turn.i) ++ drop (turn.i * 4 + 4) l) turn.invariant.2
           ∙ listed_more (number_at args.rows.now) turn.i args.out.now,
     )
