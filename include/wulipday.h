@@ -1,7 +1,7 @@
 /*
  * Wulipday, a proved keno settlement core, for hosts in C.
  *
- * Link with the static library that `rt staticlib host` writes.
+ * Link with the static library that `rt lib` writes in crates/host.
  *
  * The host keeps three things from call to call: the house, the rows and the
  * marks. What is proved of the core holds for a house that comes from

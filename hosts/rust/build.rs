@@ -1,4 +1,4 @@
-//! Links the static library that `rt staticlib host` writes. The variable
+//! Links the static library that `rt lib` writes in crates/host. The variable
 //! WULIPDAY_LIB names another place for it.
 
 use std::env;
@@ -9,7 +9,7 @@ fn main() {
     let library = env::var_os("WULIPDAY_LIB").map_or_else(default_library, PathBuf::from);
     println!("cargo:rerun-if-changed={}", library.display());
     let Ok(library) = library.canonicalize() else {
-        panic!("{} is not there: run `rt staticlib host`", library.display());
+        panic!("{} is not there: run `rt lib` in crates/host", library.display());
     };
     let folder = library.parent().expect("a file stands in a folder");
     let name = library.file_name().expect("a file has a name").to_string_lossy();
@@ -19,5 +19,5 @@ fn main() {
 
 fn default_library() -> PathBuf {
     let here = env::var_os("CARGO_MANIFEST_DIR").expect("cargo names the folder");
-    PathBuf::from(here).join("../../target/staticlib/libhost.a")
+    PathBuf::from(here).join("../../crates/host/out/libhost.a")
 }

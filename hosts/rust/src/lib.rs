@@ -2,7 +2,7 @@
 //!
 //! The core sells, cancels, draws, settles, pays and expires tickets and answers
 //! the till to the cent. It is written in Rattle and proved correct; this crate
-//! links the static library that `rt staticlib host` writes, and is all that a
+//! links the static library that `rt lib` writes in crates/host, and is all that a
 //! host needs beside it. What commands mean stands in `docs/PROTOCOL.md`.
 //!
 //! - [`Lounge`] is a house with its tickets. It owns what the core keeps and lends

@@ -37,11 +37,11 @@ fn the_command_of_the_readme_compiles_the_host_in_c() {
     let line = README.lines().find(|line| line.starts_with("    cc ")).expect("a command");
     let root = Path::new(env!("CARGO_MANIFEST_DIR")).join("../..");
     let library = env::var_os("WULIPDAY_LIB").map(PathBuf::from);
-    let library = library.unwrap_or_else(|| root.join("target/staticlib/libhost.a"));
+    let library = library.unwrap_or_else(|| root.join("crates/host/out/libhost.a"));
     let program = Path::new(env!("CARGO_TARGET_TMPDIR")).join("lounge-in-c");
     fs::remove_file(&program).ok();
     let line = line
-        .replace("target/staticlib/libhost.a", &library.display().to_string())
+        .replace("crates/host/out/libhost.a", &library.display().to_string())
         .replace("-o lounge", &format!("-Wall -Wextra -Werror -o {}", program.display()));
     let compiled = Command::new("sh").args(["-c", &line]).current_dir(root).status();
     assert!(compiled.expect("a shell").success(), "{line}");

@@ -36,7 +36,7 @@ pub fn run_ledger_in_pieces(input: &[u8], piece: usize) -> String {
 
 /// Where the program is.
 pub fn ledger_program() -> PathBuf {
-    let default = Path::new(env!("CARGO_MANIFEST_DIR")).join("../../target/bin/ledger");
+    let default = Path::new(env!("CARGO_MANIFEST_DIR")).join("../../crates/ledger/out/ledger");
     env::var_os("WULIPDAY_LEDGER").map_or(default, PathBuf::from)
 }
 

@@ -43,7 +43,7 @@ impl Object {
     pub fn of_the_library() -> Object {
         let root = Path::new(env!("CARGO_MANIFEST_DIR")).join("../..");
         let library = env::var_os("WULIPDAY_LIB").map(PathBuf::from);
-        let library = library.unwrap_or_else(|| root.join("target/staticlib/libhost.a"));
+        let library = library.unwrap_or_else(|| root.join("crates/host/out/libhost.a"));
         let told = |words: &[&str]| {
             let run = Command::new("objdump").args(words).arg(&library).output();
             let run = run.expect("objdump runs: it is in binutils");
