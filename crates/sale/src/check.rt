@@ -181,6 +181,7 @@ fn check_ways(sale: Sale, kind: Kind, sizes: [u8; 8]) -> WaysCheck
 }
 
 // 31: a feature beside another kind than 0, or beside more than one way.
+#[tactic(auto, unfolding(crate::specs::Checks::first_met))]
 fn feature_code(feature: Feature, kind: u8, count: u32) -> u8
     ensures { (o : Operands) → feature ≡ o.feature → kind ≡ o.kind → count ≡ way_count o → result ≡ first_met (feature_row o ∷ []) }
 {

@@ -4,7 +4,6 @@ use mathlib.Core.Bool.{Bool}
 use mathlib.Core.List.{List, [], ◌∷◌}
 use Prim.Native.Nat.{ℕ}
 use native.Mathlib.Omega.{arith}
-use borrow.Author.Rules.{rules}
 use borrow.Author.Tests.{ltb-false}
 use Rattle.sale.specs.Lists.{every}
 use Rattle.sale.specs.Kinds.{kind_of}
@@ -41,7 +40,6 @@ After-feature_stake_code-code = Lts.After-feature_stake_code Tie.the-claims Read
 
 abbrev Else-code-ne0-3 : Type 0
 Else-code-ne0-3 = Lts.Else3 Tie.the-claims Reads.Pre Reads.Post
-
 
 -- the rows below each
 abbrev belowFeature : Operands → List (Bool × ℕ)

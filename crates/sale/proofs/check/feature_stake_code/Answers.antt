@@ -4,8 +4,7 @@ use mathlib.Core.Bool.{Bool, true, false, not, ◌&&◌, ◌||◌}
 use mathlib.Core.List.{[]}
 use Prim.Native.Nat.{ℕ, ◌%◌}
 use lib.Dec.{eqb}
-use borrow.Author.Rules.{rules}
-use borrow.Author.Tests.{eq-eqb, ne_eqb, not-true, not-false}
+use borrow.Author.Tests.{eq-eqb, ne_eqb}
 use Rattle.sale.specs.Checks.{Operands, first_met, has_feature, feature_stake}
 use Rattle.sale.proofs.CheckLaws.{row_passed, row_met}
 use Rattle.sale.proofs.check.feature_stake_code.Goals as goal
@@ -21,7 +20,6 @@ Else-not-is_entered = Lts.Else1 Tie.the-claims Reads.Pre Reads.Post
 
 abbrev After-stake-stake : Type 0
 After-stake-stake = Lts.After-stake Tie.the-claims Reads.Pre Reads.Post
-
 
 -- the row's test, from what the code's three tests say
 none : {entered : Bool} (wrong : Bool) → entered ≡ false → entered && wrong ≡ false

@@ -1,7 +1,5 @@
 -- `groups_fit` meets its contract: its two tests are the definition's. Assumes nothing.
 use mathlib.Core.Path.{sym, ◌∙◌}
-use borrow.Author.Rules.{rules}
-use borrow.Author.Tests.{not-true, not-false}
 use Rattle.sale.proofs.check.groups_fit.Goals as goal
 
 pub returns-then-not-marks_within : goal.returns-then-not-marks_within

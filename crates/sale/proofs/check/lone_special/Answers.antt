@@ -1,6 +1,5 @@
 -- `lone_special` meets its contract: its two tests are the definition's. Assumes nothing.
 use mathlib.Core.Path.{sym, ◌∙◌}
-use borrow.Author.Rules.{rules}
 use Rattle.sale.proofs.check.lone_special.Goals as goal
 
 pub returns-then-is_special_one : goal.returns-then-is_special_one

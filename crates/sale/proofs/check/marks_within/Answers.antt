@@ -1,11 +1,8 @@
 -- `marks_within` meets its contract. The loop's invariant: the marks ahead pass the test where all of them do. Assumes nothing.
-use mathlib.Core.Path.{◌≡◌, refl}
-use Prim.Native.Nat.{◌≤◌, ◌-◌}
+use mathlib.Core.Path.{refl}
 use native.Mathlib.Omega.{arith}
 use lib.Dec.{leb}
-use lib.ListN.{length, drop}
 use borrow.Author.Tests.{le-leb, lt-leb}
-use Rattle.sale.specs.Lists.{every}
 use Rattle.sale.proofs.CheckLaws.{every_failed, every_passed, every_done}
 use Rattle.sale.proofs.check.marks_within.Goals as goal
 
@@ -28,13 +25,12 @@ pub loop-i-smaller : goal.loop-i-smaller
 loop-i-smaller c = omega arith
 
 pub loop-i-preserved : goal.loop-i-preserved
-loop-i-preserved c =
-    (
-      omega arith,
-      every_passed (λ m. leb m c.args.last) c.args.marks.now c.loop-i.i c.loop-i.invariant.1 0
-          c.loop-i-test.true
-          (le-leb _ _ c.if-marks-i.false),
-    )
+loop-i-preserved c = (
+  omega arith,
+  every_passed (λ m. leb m c.args.last) c.args.marks.now c.loop-i.i c.loop-i.invariant.1 0
+      c.loop-i-test.true
+      (le-leb _ _ c.if-marks-i.false),
+)
 
 pub returns : goal.returns
 returns c =

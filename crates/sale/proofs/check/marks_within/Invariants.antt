@@ -1,12 +1,9 @@
 -- `marks_within` meets its contract. The loop's invariant: the marks ahead pass the test where all of them do. Assumes nothing.
-use mathlib.Core.Path.{◌≡◌, refl}
+use mathlib.Core.Path.{◌≡◌}
 use Prim.Native.Nat.{◌≤◌, ◌-◌}
-use native.Mathlib.Omega.{arith}
 use lib.Dec.{leb}
 use lib.ListN.{length, drop}
-use borrow.Author.Tests.{le-leb, lt-leb}
 use Rattle.sale.specs.Lists.{every}
-use Rattle.sale.proofs.CheckLaws.{every_failed, every_passed, every_done}
 use Rattle.sale.proofs.check.marks_within.Given as goal
 
 abbrev pub invariant-loop-i : goal.invariant-loop-i

@@ -2,13 +2,12 @@
 use mathlib.Core.Path.{◌≡◌, refl}
 use mathlib.Core.Bool.{not}
 use mathlib.Core.List.{List}
-use Prim.Native.Nat.{ℕ, ◌≤◌, ◌-◌}
+use Prim.Native.Nat.{ℕ}
 use native.Mathlib.Omega.{arith}
 use lib.Dec.{eqb}
-use lib.ListN.{length, take, drop}
+use lib.ListN.{length, take}
 use lib.Seq.{length-take-le, get_or-take}
 use borrow.Author.Tests.{eq-eqb, ne_eqb}
-use Rattle.sale.specs.Lists.{every}
 use Rattle.sale.proofs.CheckLaws.{every_failed, every_passed, every_done}
 use Rattle.sale.proofs.check.none_empty.Goals as goal
 use Rattle.sale.proofs.check.none_empty.Lts
@@ -16,7 +15,6 @@ use Rattle.sale.proofs.check.none_empty.Reads
 
 abbrev At-Start : Type 0
 At-Start = Lts.Start Reads.Pre Reads.Post goal.the-invariant-loop-i goal.the-decreases-loop-i
-
 
 -- the groups that are asked about, all of them in the array
 abbrev asked : (start : At-Start) → List ℕ

@@ -1,15 +1,10 @@
 -- `none_empty` meets its contract. The loop's invariant: the groups ahead pass the test where all of them do. Assumes nothing.
-use mathlib.Core.Path.{◌≡◌, refl}
+use mathlib.Core.Path.{◌≡◌}
 use mathlib.Core.Bool.{not}
-use mathlib.Core.List.{List}
-use Prim.Native.Nat.{ℕ, ◌≤◌, ◌-◌}
-use native.Mathlib.Omega.{arith}
+use Prim.Native.Nat.{◌≤◌, ◌-◌}
 use lib.Dec.{eqb}
-use lib.ListN.{length, take, drop}
-use lib.Seq.{length-take-le, get_or-take}
-use borrow.Author.Tests.{eq-eqb, ne_eqb}
+use lib.ListN.{take, drop}
 use Rattle.sale.specs.Lists.{every}
-use Rattle.sale.proofs.CheckLaws.{every_failed, every_passed, every_done}
 use Rattle.sale.proofs.check.none_empty.Given as goal
 
 abbrev pub invariant-loop-i : goal.invariant-loop-i

@@ -2,7 +2,6 @@
 use mathlib.Core.Path.{◌≡◌, sym, ap, ◌∙◌}
 use mathlib.Core.Bool.{not}
 use mathlib.Core.List.{[]}
-use borrow.Author.Rules.{rules}
 use Rattle.sale.specs.Kinds.{kind_of}
 use Rattle.sale.specs.Price.{stake_fits}
 use Rattle.sale.specs.Checks.{Operands, first_met, way_count}
@@ -14,7 +13,6 @@ use Rattle.sale.proofs.check.stake_code.Tie
 
 abbrev After-stake_fits : Type 0
 After-stake_fits = Lts.After-stake_fits Tie.the-claims Reads.Pre Reads.Post
-
 
 tested : (c : After-stake_fits) (o : Operands)
     → c.args.kind ≡ kind_of o.kind

@@ -1,7 +1,6 @@
 -- `types_fit` meets its contract: nothing is left above bit g - 1 where the byte is below 2^g. Assumes nothing.
 use Prim.Native.Nat.{◌^◌}
 use lib.Pow.{pow_pos}
-use borrow.Author.Rules.{rules}
 use borrow.Author.Tests.{eq-eqb, ne_eqb}
 use Rattle.sale.proofs.CheckLaws.{small_quotient}
 use Rattle.sale.proofs.check.types_fit.Goals as goal

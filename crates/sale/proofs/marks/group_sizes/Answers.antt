@@ -1,11 +1,9 @@
 -- `group_sizes` meets its contract. The loop's invariant: the counts are the groups' sizes among the marks passed. Assumes nothing.
-use mathlib.Core.Path.{◌≡◌, sym}
-use Prim.Native.Nat.{◌≤◌, ◌-◌}
+use mathlib.Core.Path.{sym}
 use native.Mathlib.Omega.{arith}
 use native.Mathlib.Numerals.{add-one}
-use lib.ListN.{length, take, length-take}
+use lib.ListN.{take, length-take}
 use lib.Seq.{take-suc, take_all}
-use Rattle.sale.specs.Ways.{size_of, by_group}
 use Rattle.sale.proofs.MarkLaws.{none_counted, figure_le}
 use Rattle.sale.proofs.marks.group_sizes.Goals as goal
 

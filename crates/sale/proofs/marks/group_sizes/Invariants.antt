@@ -1,12 +1,8 @@
 -- `group_sizes` meets its contract. The loop's invariant: the counts are the groups' sizes among the marks passed. Assumes nothing.
-use mathlib.Core.Path.{◌≡◌, sym}
+use mathlib.Core.Path.{◌≡◌}
 use Prim.Native.Nat.{◌≤◌, ◌-◌}
-use native.Mathlib.Omega.{arith}
-use native.Mathlib.Numerals.{add-one}
-use lib.ListN.{length, take, length-take}
-use lib.Seq.{take-suc, take_all}
+use lib.ListN.{length, take}
 use Rattle.sale.specs.Ways.{size_of, by_group}
-use Rattle.sale.proofs.MarkLaws.{none_counted, figure_le}
 use Rattle.sale.proofs.marks.group_sizes.Given as goal
 
 abbrev pub invariant-loop-i : goal.invariant-loop-i

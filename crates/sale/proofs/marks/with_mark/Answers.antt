@@ -3,8 +3,7 @@ use mathlib.Core.Path.{◌∙◌}
 use Prim.Native.Nat.{◌-◌}
 use mathlib.Core.Logic.{⊎_elim}
 use native.Mathlib.Omega.{arith}
-use borrow.Author.Rules.{rules}
-use borrow.Author.Tests.{leb-true, leb-false}
+use borrow.Author.Tests.{leb-true}
 use Rattle.sale.proofs.MarkLaws.{mark_counted, mark_passed}
 use Rattle.sale.proofs.marks.with_mark.Goals as goal
 
@@ -23,6 +22,6 @@ returns-then-mark-le8 c xs same = rw same (mark_counted xs _ _ (omega arith) (om
 pub returns-else-mark-ge1 : goal.returns-else-mark-ge1
 returns-else-mark-ge1 c xs same =
     ⊎_elim
-    (λ w. same ∙ mark_passed xs _ (λ i h e. omega (arith, leb-false c.args.mark 8 w.1.left)))
-    (λ w. same ∙ mark_passed xs _ (λ i h e. omega arith))
-    c.else-mark-ge1.branch
+    (λ w. same ∙ mark_passed xs _ (λ i h e. omega (arith, w.1)))
+    (λ w. same ∙ mark_passed xs _ (λ i h e. omega (arith, w)))
+    c.else-mark-ge1.either

@@ -11,7 +11,6 @@ use Rattle.sale.proofs.price.charge_of.Reads
 abbrev At-Start : Type 0
 At-Start = Lts.Start Reads.Pre Reads.Post
 
-
 pub returns : goal.returns
 unfolding game_price charge
 returns c = refl

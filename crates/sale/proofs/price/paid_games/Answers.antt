@@ -1,5 +1,4 @@
 -- `paid_games` meets its contract: the tests of the code are those of the definition. Assumes nothing.
-use borrow.Author.Rules.{rules}
 use borrow.Author.Tests.{lt-ltb, le-ltb}
 use Rattle.sale.specs.Price.{paid_games}
 use Rattle.sale.proofs.price.paid_games.Goals as goal

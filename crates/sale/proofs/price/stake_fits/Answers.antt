@@ -1,5 +1,4 @@
 -- `stake_fits` meets its contract: its one test for every minimum is the definition's two cases (PriceLaws). Assumes nothing.
-use borrow.Author.Rules.{rules}
 use borrow.Author.Tests.{le-leb, lt-leb}
 use Rattle.sale.proofs.PriceLaws.{stake_test}
 use Rattle.sale.proofs.price.stake_fits.Goals as goal

@@ -3,7 +3,6 @@ use mathlib.Core.Path.{◌≡◌, sym, ◌∙◌, subst}
 use mathlib.Core.Bool.{true, false, cond}
 use mathlib.Core.List.{[], ◌∷◌}
 use lib.Count.{ones, ones-le}
-use borrow.Author.Tests.{not-true, not-false}
 use Rattle.sale.specs.Ways.{nominated}
 use Rattle.sale.specs.Passes.{survey_from, Unfilled}
 use Rattle.sale.proofs.WayLaws.{mask_lt}
@@ -14,7 +13,6 @@ use Rattle.sale.proofs.survey.note_mask.Tie
 
 abbrev Else-not-nominates : Type 0
 Else-not-nominates = Lts.Else1 Tie.the-claims Reads.Pre Reads.Post
-
 
 pub nominates-requires : goal.nominates-requires
 nominates-requires c = record { few = ones-le 8 _ (mask_lt c.requires.0) }

@@ -2,7 +2,6 @@
 use mathlib.Core.Path.{◌∙◌}
 use Prim.Native.Nat.{◌+◌}
 use lib.ListN.{get_or}
-use borrow.Author.Rules.{rules}
 use Rattle.sale.proofs.SurveyLaws.{stored}
 use Rattle.sale.proofs.survey.note_way.Goals as goal
 

@@ -1,6 +1,5 @@
 -- `sale::survey::survey_ways` meets its contract: the walk starts with no group taken and no way seen, and goes over all ways.
 use mathlib.Core.Path.{ap, ◌∙◌}
-use borrow.Author.Rules.{rules}
 use Rattle.sale.specs.Passes.{survey_of}
 use Rattle.sale.proofs.WayLaws.{start_place, start_carried}
 use Rattle.sale.proofs.SurveyLaws.{start_unfilled, sizes_from_ways}

@@ -1,12 +1,10 @@
 -- `sale::ways::can_nominate` meets its contract: the doubled byte, moved down by the ones of the mask, has a digit among those that are asked.
 use mathlib.Core.Path.{ap}
 use mathlib.Core.Bool.{not}
-use Prim.Native.Nat.{◌+◌, ◌*◌, ◌/◌, ◌%◌, ◌^◌}
+use Prim.Native.Nat.{◌*◌, ◌/◌, ◌%◌, ◌^◌}
 use native.Mathlib.Omega.{arith}
 use lib.Dec.{eqb}
 use lib.Count.{ones, ones-le}
-use lib.Pow.{pow_pos}
-use borrow.Author.Rules.{rules}
 use Rattle.sale.specs.Passes.{nominable}
 use Rattle.sale.proofs.WayLaws.{mask_lt}
 use Rattle.sale.proofs.WalkLaws.{span}

@@ -2,7 +2,6 @@
 use mathlib.Core.Path.{ap, ◌∙◌, sym}
 use mathlib.Core.Bool.{not, ◌&&◌}
 use lib.Count.{ones}
-use borrow.Author.Rules.{rules}
 use borrow.Author.Tests.{lt-leb, le-leb}
 use Rattle.sale.specs.Passes.{nominable, ends_here}
 use Rattle.sale.proofs.ways.ends_here.Goals as goal

@@ -4,7 +4,6 @@ use Prim.Native.Nat.{ℕ, zero, suc, ◌-◌, ◌/◌, ◌%◌, ◌^◌}
 use mathlib.Core.Bool.{false}
 use native.Mathlib.Numerals.{sub-one}
 use lib.Dec.{eqb}
-use borrow.Author.Rules.{rules}
 use Rattle.sale.specs.Ways.{nominated}
 use Rattle.sale.proofs.ways.nominates.Goals as goal
 

@@ -1,7 +1,5 @@
 -- `sale::survey::Survey::jackpot` meets its contract: each return is the definition at the tests that led there.
 use mathlib.Core.Path.{sym, ap, ◌∙◌}
-use borrow.Author.Rules.{rules}
-use borrow.Author.Tests.{not-true, not-false}
 use Rattle.sale.specs.Kinds.{is_jackpot}
 use Rattle.sale.specs.Kinds.{jackpot_by}
 use Rattle.sale.proofs.survey.Survey.jackpot.Goals as goal

@@ -1,6 +1,7 @@
 -- `Kind::of` meets its contract: at each number that the `match` names, the definition computes to the arm's kind; in the last arm no test
 -- of the definition passes. Assumes nothing.
 use mathlib.Core.Path.{sym, ap}
+use native.Mathlib.Omega.{arith}
 use borrow.Author.Tests.{ne_eqb}
 use Rattle.sale.specs.Kinds.{kind_of}
 use Rattle.sale.proofs.terms.Kind.of.Goals as goal
@@ -21,4 +22,4 @@ pub returns-in_default : goal.returns-in_default
 unfolding kind_of
 returns-in_default c =
     let n = c.args.number in
-    simp (ne_eqb n 0 c.in_default.rest.0.0.1, ne_eqb n 1 c.in_default.rest.0.1, ne_eqb n 2 c.in_default.rest.1)
+    simp (ne_eqb n 0 (λ e. omega arith), ne_eqb n 1 (λ e. omega arith), ne_eqb n 2 (λ e. omega arith))
