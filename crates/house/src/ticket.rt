@@ -55,6 +55,7 @@ pub fn is_expired(rows: &[u64; 3200], i: usize, bound: u64) -> bool
 }
 
 // Whether the ticket is one of 50 games or more and has begun.
+#[tactic(auto, unfolding(crate::specs::Tickets::keno_to_go_begun))]
 pub fn keno_to_go_begun(game: u64, drawing: bool, row: Row) -> bool
     ensures { (marks : List ℕ) → result ≡ keno_to_go_begun game drawing (ticket_from row marks) }
 {
