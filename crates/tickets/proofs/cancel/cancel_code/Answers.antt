@@ -1,6 +1,5 @@
 -- `tickets::cancel::cancel_code` meets its contract: each return is one row of Cancel's table, or past them all.
 use mathlib.Core.Path.{sym, ◌∙◌}
-use borrow.Author.Rules.{rules}
 use borrow.Author.Tests.{lt-ltb, le-ltb, le-leb, lt-leb}
 use Rattle.sale.specs.Checks.{first_met}
 use Rattle.tickets.proofs.cancel.cancel_code.Goals as goal

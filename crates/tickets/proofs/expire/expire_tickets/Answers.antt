@@ -4,8 +4,6 @@ use Prim.Native.Nat.{◌-◌}
 use native.Mathlib.Omega.{arith}
 use mathlib.Core.Path.{◌≡◌, ap, ap₂, ◌∙◌}
 use lib.ListN.{length}
-use borrow.Author.Rules.{rules}
-use Rattle.house.specs.Model.{Model}
 use Rattle.house.specs.Commands.{expire, replies, answer_of, act, reply, expiring}
 use Rattle.house.specs.Till.{till_of}
 use Rattle.house.specs.View.{view}
@@ -14,36 +12,13 @@ use Rattle.house.proofs.ReachedHouses.{Sure, reached_sure}
 use Rattle.house.proofs.ViewLaws.{carried_refused, carried_done, live_count, each_live}
 use Rattle.tickets.proofs.ExpireLaws.{expire_closed, expire_open, kept_tells, dues_within, house_expired}
 use Rattle.tickets.proofs.expire.expire_tickets.Goals as goal
-use Rattle.tickets.proofs.expire.expire_tickets.Lts
-use Rattle.tickets.proofs.expire.expire_tickets.Reads
-use Rattle.tickets.proofs.expire.expire_tickets.Tie
-
-abbrev At-Start : Type 0
-At-Start = Lts.Start Tie.the-claims Reads.Pre Reads.Post
-
-abbrev After-drop_expired-sweep : Type 0
-After-drop_expired-sweep = Lts.After-drop_expired Tie.the-claims Reads.Pre Reads.Post
-
-
--- the house at entry
-abbrev entry : At-Start → Model
-entry start = view start.args.house start.args.rows.now start.args.marks.now
-
-sure : (start : At-Start) → Sure (entry start)
-sure start = reached_sure (entry start) start.requires
-
-counted : (start : At-Start) → length (entry start).live ≡ start.args.house.live
-counted start = live_count start.args.house start.args.rows.now start.args.marks.now
-
-abbrev begun : After-drop_expired-sweep → At-Start
-begun c = c.before.before.before.before
 
 pub returns-then-day-eq0 : goal.returns-then-day-eq0
 unfolding view
 returns-then-day-eq0 c =
     let args = c.args in
     carried_refused args.house args.rows.now args.marks.now expire 4 _ _
-    (expire_closed (entry c.before.before) c.if-day-eq0.true)
+    (expire_closed (view args.house args.rows.now args.marks.now) c.if-day-eq0.true)
     (omega arith)
     c.refused.ensures.0
     c.refused.ensures.1
@@ -52,39 +27,46 @@ pub drop_expired-sweep-requires : goal.drop_expired-sweep-requires
 unfolding till_of view
 drop_expired-sweep-requires c =
     let args = c.args in
-    let m = entry c.before.before.before in (
-      (omega (arith, counted c.before.before.before, (sure c.before.before.before).few), (sure c.before.before.before).fit.figures.owed),
-      λ i b. kept_tells m.game _ (each_live args.house args.rows.now args.marks.now (Kept m.game) (sure c.before.before.before).kept i b),
-    )
+    let m = view args.house args.rows.now args.marks.now in
+    let sure : Sure m = reached_sure m c.requires in
+    record {
+      live_bound = (omega (arith, live_count args.house args.rows.now args.marks.now, sure.few), sure.fit.figures.owed);
+      days = λ i b. kept_tells m.game _ (each_live args.house args.rows.now args.marks.now (Kept m.game) sure.kept i b);
+    }
 
 pub overflow_sub-gone : goal.overflow_sub-gone
 overflow_sub-gone c =
-    omega (arith, counted (begun c.before), c.drop_expired-sweep.ensures.gone)
+    let args = c.args in
+    omega (arith, live_count args.house args.rows.now args.marks.now, c.drop_expired-sweep.ensures.gone)
 
 pub overflow_add-unclaimed : goal.overflow_add-unclaimed
 unfolding view till_of
 overflow_add-unclaimed c =
-    let start = begun c.before.before in
-    omega (arith, (sure start).fit.figures.unclaimed, (sure start).fit.figures.owed, dues_within (entry start), c.drop_expired-sweep.ensures.dues)
+    let args = c.args in
+    let m = view args.house args.rows.now args.marks.now in
+    let sure : Sure m = reached_sure m c.requires in
+    omega (arith, sure.fit.figures.unclaimed, sure.fit.figures.owed, dues_within m, c.drop_expired-sweep.ensures.dues)
 
 pub overflow_cast-gone : goal.overflow_cast-gone
 overflow_cast-gone c =
-    omega (arith, counted (begun c.before.before.before), (sure (begun c.before.before.before)).few)
+    let args = c.args in
+    let m = view args.house args.rows.now args.marks.now in
+    omega (arith, live_count args.house args.rows.now args.marks.now, (reached_sure m c.requires).few)
 
 pub returns : goal.returns
 unfolding view act reply
 returns c =
-    let start = begun c.before.before.before.before in
-    let args = start.args in
+    let args = c.args in
     let words = args.rows.now in
     let marks = args.marks.now in
-    let words' = c.drop_expired-sweep.new.1.0 in
-    let marks' = c.drop_expired-sweep.new.1.1.0 in
+    let m = view args.house words marks in
+    let words' = c.drop_expired-sweep.new.rows in
+    let marks' = c.drop_expired-sweep.new.marks in
     let sweep = c.drop_expired-sweep.result in
     let done = c.drop_expired-sweep.ensures in
-    let gone : args.house.live - sweep.left ≡ length (expiring (entry start)) = omega (arith, done.gone, counted start) in
+    let gone : args.house.live - sweep.left ≡ length (expiring m) = omega (arith, done.gone, live_count args.house words marks) in
     carried_done args.house words marks expire _ words' marks' _
-    (expire_open (entry start) c.if-day-eq0.false)
+    (expire_open m c.if-day-eq0.false)
     (ap (λ h. view h words' marks') c.accepted.ensures.0
-    ∙ house_expired args.house words marks (sure start) words' marks' sweep.left sweep.cents done)
+    ∙ house_expired args.house words marks (reached_sure m c.requires) words' marks' sweep.left sweep.cents done)
     (c.accepted.ensures.1 ∙ ap answer_of (ap₂ replies gone done.dues))

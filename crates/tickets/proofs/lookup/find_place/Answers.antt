@@ -47,47 +47,56 @@ few {h} {words} comes = (rising-rows comes).few
 pub returns-then-house-eq0 : goal.returns-then-house-eq0
 returns-then-house-eq0 c =
     let args = c.args in
-    (λ marks. by_tests args.house args.rows.now args.ticket true _ _ marks (eq-eqb args.house.day 0 c.if-house-eq0.true) refl refl, (λ marks e. omega arith, omega arith))
+    record {
+      code = λ marks. by_tests args.house args.rows.now args.ticket true _ _ marks (eq-eqb args.house.day 0 c.if-house-eq0.true) refl refl;
+      place = λ marks e. omega arith;
+      within = omega arith;
+    }
 
 pub returns-then-number-eq0 : goal.returns-then-number-eq0
 returns-then-number-eq0 c =
-    let args = c.args in (
-      λ marks. by_tests args.house args.rows.now args.ticket false true _ marks
-          (ne_eqb args.house.day 0 c.if-house-eq0.false) (rw (eq-eqb args.ticket 0 c.if-number-eq0.true)) refl,
-      (λ marks e. omega arith, omega arith),
-    )
+    let args = c.args in
+    record {
+      code = λ marks. by_tests args.house args.rows.now args.ticket false true _ marks
+          (ne_eqb args.house.day 0 c.if-house-eq0.false) (rw (eq-eqb args.ticket 0 c.if-number-eq0.true)) refl;
+      place = λ marks e. omega arith;
+      within = omega arith;
+    }
 
 pub returns-then-house-number : goal.returns-then-house-number
 returns-then-house-number c =
-    let args = c.args in (
-      λ marks. by_tests args.house args.rows.now args.ticket false true _ marks
+    let args = c.args in
+    record {
+      code = λ marks. by_tests args.house args.rows.now args.ticket false true _ marks
           (ne_eqb args.house.day 0 c.if-house-eq0.false)
-          (rw (ne_eqb args.ticket 0 c.if-number-eq0.false) (lt-ltb args.house.issued args.ticket c.if-house-number.true)) refl,
-      (λ marks e. omega arith, omega arith),
-    )
+          (rw (ne_eqb args.ticket 0 c.if-number-eq0.false) (lt-ltb args.house.issued args.ticket c.if-house-number.true)) refl;
+      place = λ marks e. omega arith;
+      within = omega arith;
+    }
 
 pub place_of-place-requires : goal.place_of-place-requires
 place_of-place-requires c = rising-rows c.requires
 
 pub returns-then-live-place : goal.returns-then-live-place
 returns-then-live-place c =
-    let args = c.args in (
-      λ marks. by_tests args.house args.rows.now args.ticket false false true marks
+    let args = c.args in
+    record {
+      code = λ marks. by_tests args.house args.rows.now args.ticket false false true marks
           (ne_eqb args.house.day 0 c.if-house-eq0.false)
           (rw (ne_eqb args.ticket 0 c.if-number-eq0.false) (le-ltb args.house.issued args.ticket c.if-house-number.false))
-          (ap not (has args.house args.rows.now args.ticket (few c.requires) c.place_of-place.result marks (c.place_of-place.ensures marks) ∙ le-ltb _ _ c.if-live-place.true)),
-      (λ marks e. omega arith, omega arith),
-    )
+          (ap not (has args.house args.rows.now args.ticket (few c.requires) c.place_of-place.result marks (c.place_of-place.ensures marks) ∙ le-ltb _ _ c.if-live-place.true));
+      place = λ marks e. omega arith;
+      within = omega arith;
+    }
 
 pub returns : goal.returns
 returns c =
-    let args = c.args in (
-      λ marks. by_tests args.house args.rows.now args.ticket false false false marks
+    let args = c.args in
+    record {
+      code = λ marks. by_tests args.house args.rows.now args.ticket false false false marks
           (ne_eqb args.house.day 0 c.if-house-eq0.false)
           (rw (ne_eqb args.ticket 0 c.if-number-eq0.false) (le-ltb args.house.issued args.ticket c.if-house-number.false))
-          (ap not (has args.house args.rows.now args.ticket (few c.requires) c.place_of-place.result marks (c.place_of-place.ensures marks) ∙ lt-ltb _ _ c.if-live-place.false)),
-      (
-        λ marks e. placed args.house args.rows.now args.ticket (few c.requires) c.place_of-place.result marks (c.place_of-place.ensures marks),
-        omega (arith, few c.requires, c.if-live-place.false),
-      ),
-    )
+          (ap not (has args.house args.rows.now args.ticket (few c.requires) c.place_of-place.result marks (c.place_of-place.ensures marks) ∙ lt-ltb _ _ c.if-live-place.false));
+      place = λ marks e. placed args.house args.rows.now args.ticket (few c.requires) c.place_of-place.result marks (c.place_of-place.ensures marks);
+      within = omega (arith, few c.requires, c.if-live-place.false);
+    }

@@ -2,7 +2,6 @@
 use native.Mathlib.Omega.{arith}
 use mathlib.Core.Path.{sym, ◌∙◌}
 use mathlib.Core.List.{[]}
-use borrow.Author.Rules.{rules}
 use Rattle.house.specs.View.{view}
 use Rattle.house.proofs.ViewLaws.{live_count}
 use Rattle.tickets.proofs.SellLaws.{sale_unfit, sale_full, sale_last_number, sale_last_game, sale_fits, next_within}
