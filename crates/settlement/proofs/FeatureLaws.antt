@@ -18,7 +18,7 @@ use Rattle.prizes.proofs.LuckyLastLaws.{nothing_staked, feature_within}
 use Rattle.house.specs.Tickets.{Ticket, runs_in, entry_of}
 use Rattle.house.specs.Model.{Model}
 use Rattle.house.specs.Commands.{running_in, settled_by}
-use Rattle.house.specs.View.{ticket_from}
+use Rattle.house.specs.View.{row_at, marks_at, ticket_from, ticket_in}
 use Rattle.house.specs.declared.rows.Row.{Row}
 use Rattle.house.proofs.Bounded.{feature_stake_within}
 use Rattle.house.proofs.RowLaws.{row_feature}
@@ -59,6 +59,10 @@ module _ (w : Row) (own : List ℕ) where
         go : (runs : Bool) → runs_in game ticket ≡ runs → 0 ≡ feature_at game draw ticket
         go true e = sym (nothing_staked draw own) ∙ ap (lucky_last_prize draw own) (sym none) ∙ feature_runs e
         go false e = feature_rests e
+
+-- the ticket at a place of the rows, which has no feature
+pub no_feature_at : (words marks : List ℕ) (i game : ℕ) (draw : Draw) → (row_at words i).feature ≡ 0 → feature_at game draw (ticket_in words marks i) ≡ 0
+no_feature_at words marks i game draw none = sym (no_feature (row_at words i) (marks_at marks i) game draw none)
 
 pub feature_at_within : (game : ℕ) (draw : Draw) (t : Ticket) → Playable t.operands → feature_at game draw t ≤ feature_limit charge_limit
 unfolding feature_at

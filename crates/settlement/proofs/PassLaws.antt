@@ -1,6 +1,6 @@
 -- The prizes of a game ticket by ticket: the major ones of all tickets one behind the other are the rule's list, each is a major prize and small;
 -- and what the tickets are paid by the rule, spread over all live tickets.
-use Prim.Native.Nat.{ℕ, zero, suc, ◌+◌, ◌≤◌, ◌<◌, ◌^◌}
+use Prim.Native.Nat.{ℕ, zero, suc, ◌≤◌, ◌<◌, ◌^◌}
 use mathlib.Core.Path.{◌≡◌, refl, sym, ap, ◌∙◌, subst}
 use mathlib.Core.Bool.{Bool, true, false, cond}
 use mathlib.Core.List.{List, [], ◌∷◌, ◌++◌, map, map-map, append_assoc, append-nil, Memᴰ}

@@ -37,12 +37,13 @@ use Rattle.house.specs.Tickets.{Ticket, runs_in, terms_of}
 use Rattle.house.specs.Commands.{blank_ticket}
 use Rattle.house.specs.Balance.{Reached}
 use Rattle.house.specs.View.{view, ticket_from, ticket_in}
-use Rattle.settlement.specs.Settling.{PaidOut, prizes_at, matches_at}
+use Rattle.settlement.specs.Settling.{spread, PaidOut, prizes_at, matches_at}
 use Rattle.settlement.specs.Passing.{live_in, prizes_below, sure_cents, all_majors, Sold, SoldAll, Narrow, FoundAt, FoundAll, Cutting, Raised}
 use Rattle.house.specs.declared.state.House.{House}
 use Rattle.house.specs.declared.rows.Row.{Row}
 use Rattle.house.proofs.Ledger.{All, Kept}
 use Rattle.house.proofs.ReachedHouses.{reached_sure}
+use Rattle.house.proofs.ViewLaws.{live_count}
 use Rattle.house.proofs.RowLists.{get_or_map, length_table, get_or_table}
 use Rattle.settlement.proofs.PassLaws.{member_append, majors_snoc, majors_next, majors_split, own_major, majors_all, majors_large, prizes_small, prizes_few, paid_spread, matches_spread}
 
@@ -417,6 +418,21 @@ table_members f P (suc n) each x m =
     last : Memᴰ x (f n ∷ []) → P x
     last (Memᴰ.head e) = subst P (sym e) (each n (omega arith))
     last (Memᴰ.tail k) = elim k [ ]
+
+-- ---- a game without live tickets
+
+nothing : (game : ℕ) (figures : List ℕ) (ts : List Ticket) → length ts ≡ 0 → spread game figures ts ≡ []
+unfolding spread
+nothing game figures [] e = refl
+nothing game figures (t ∷ ts) e = absurd (omega arith)
+
+-- there is nothing to pay
+pub nothing_spread : (h : House) (words marks figures : List ℕ) → h.live ≡ 0 → spread (view h words marks).game figures (view h words marks).live ≡ []
+nothing_spread h words marks figures none =
+    nothing (view h words marks).game figures (view h words marks).live (live_count h words marks ∙ none)
+
+pub nothing_taken : (h : House) (words marks table : List ℕ) → h.live ≡ 0 → take (length (view h words marks).live) table ≡ []
+nothing_taken h words marks table none = ap (λ n. take n table) (live_count h words marks ∙ none)
 
 -- ---- the parts together
 

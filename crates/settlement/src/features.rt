@@ -13,6 +13,7 @@ use prizes::draw::Draw;
 use prizes::lucky_last::feature_prize;
 
 // The feature prize of the ticket at a place: nothing where it has no feature or does not run in the game. Most have none, so that is asked first.
+#[tactic(auto, using(crate::proofs::FeatureLaws::no_feature_at))]
 fn feature_at(rows: &[u64; 3200], marks: &[u8; 16000], i: usize, game: u64, draw: Draw) -> u64
     requires { SoldAt rows.now marks.now i }
     ensures { result ≡ feature_at game draw (ticket_in rows.now marks.now i) }

@@ -1,22 +1,14 @@
 -- `settlement::figures::find_figures` meets its contract: each turn adds one row's figures, and each total is that of the rows passed, within so many
 -- of the most that one row adds.
-use Prim.Native.Nat.{◌+◌, ◌-◌, ◌≤◌}
+use Prim.Native.Nat.{◌+◌}
 use mathlib.Core.Path.{◌≡◌, refl, sym, ap, ◌∙◌, subst⁻¹}
 use native.Mathlib.Omega.{arith}
-use lib.ListN.{take}
 use Rattle.sale.specs.Lists.{sum}
 use Rattle.house.specs.View.{Affordable}
-use Rattle.settlement.specs.Sharing.{paid_at, paid_in, stakes_of, figures_of}
+use Rattle.settlement.specs.Sharing.{figures_of}
 use Rattle.settlement.proofs.SharingLaws.{paid_of_row, paid_none, paid_more, paid_within, paid_at_within, no_stakes, stakes_room, stakes_next}
 use Rattle.settlement.proofs.TablePlaces.{sum_take_more, sum_take_within}
 use Rattle.settlement.proofs.figures.find_figures.Goals as goal
-use Rattle.settlement.proofs.figures.find_figures.Lts
-use Rattle.settlement.proofs.figures.find_figures.Reads
-use Rattle.settlement.proofs.figures.find_figures.Tie
-
-abbrev After-paid_for-own : Type 0
-After-paid_for-own = Lts.After-paid_for Tie.the-claims Reads.Pre Reads.Post goal.the-invariant-loop-i goal.the-decreases-loop-i
-
 
 pub loop-i-init : goal.loop-i-init
 unfolding sum
@@ -29,27 +21,20 @@ loop-i-init c =
       sym (no_stakes args.rows.now args.full.now args.game 8),
     )
 
--- what the row's ticket paid for the game
-own-paid : (c : After-paid_for-own) →
-    c.paid_for-own.result ≡ paid_at c.args.rows.now c.args.game c.loop-i.i
-own-paid c =
-    let args = c.args in
-    paid_of_row args.rows.now args.game c.loop-i.i c.read_row-row.result c.read_row-row.ensures c.paid_for-own.result c.paid_for-own.ensures
-
 pub read_row-row-requires : goal.read_row-row-requires
-read_row-row-requires c = omega (arith, c.requires.0.few)
+read_row-row-requires c = omega (arith, c.requires.rows.few)
 
 pub paid_for-own-requires : goal.paid_for-own-requires
 paid_for-own-requires c =
-    let rows = c.requires.0 in
+    let rows = c.requires.rows in
     let i = c.loop-i.i in
     subst⁻¹ Affordable c.read_row-row.ensures (rows.within i c.loop-i-test.true)
 
 pub offset_bounds-paid-i : goal.offset_bounds-paid-i
-offset_bounds-paid-i c = omega (arith, c.requires.0.few)
+offset_bounds-paid-i c = omega (arith, c.requires.rows.few)
 
 pub bounds-paid-i : goal.bounds-paid-i
-bounds-paid-i c = omega (arith, c.requires.0.few)
+bounds-paid-i c = omega (arith, c.requires.rows.few)
 
 pub overflow_add-prizes : goal.overflow_add-prizes
 overflow_add-prizes c =
@@ -58,43 +43,48 @@ overflow_add-prizes c =
     omega (
       arith,
       turn.invariant.1,
-      sum_take_more paid turn.i (omega (arith, c.requires.1, c.loop-i-test.true)),
+      sum_take_more paid turn.i (omega (arith, c.requires.prizes, c.loop-i-test.true)),
       sum_take_within paid (turn.i + 1) c.args.live (omega (arith, c.loop-i-test.true)),
-      c.requires.1,
+      c.requires.prizes,
     )
 
 pub overflow_add-stakes : goal.overflow_add-stakes
 overflow_add-stakes c =
     let args = c.args in
     let turn = c.loop-i in
+    let own = paid_of_row args.rows.now args.game c.loop-i.i c.read_row-row.result c.read_row-row.ensures c.paid_for-own.result c.paid_for-own.ensures in
     omega (
       arith,
       turn.invariant.2,
-      own-paid c.before,
-      c.requires.0.few,
-      paid_within args.rows.now args.game args.full.now args.live c.requires.0 turn.i turn.invariant.0,
-      paid_at_within args.rows.now args.game turn.i (c.requires.0.within turn.i c.loop-i-test.true),
+      own,
+      c.requires.rows.few,
+      paid_within args.rows.now args.game args.full.now args.live c.requires.rows turn.i turn.invariant.0,
+      paid_at_within args.rows.now args.game turn.i (c.requires.rows.within turn.i c.loop-i-test.true),
     )
 
 pub with_ticket-six-requires : goal.with_ticket-six-requires
 with_ticket-six-requires c =
     let args = c.args in
-    let turn = c.loop-i in (
-      omega (arith, c.requires.0.few, c.loop-i-test.true),
-      stakes_room args.rows.now args.full.now args.game 6 turn.i c.paid_for-own.result turn.six turn.invariant.3 c.read_row-row.result c.read_row-row.ensures (own-paid c.before) args.live c.requires.0 c.loop-i-test.true,
-    )
+    let turn = c.loop-i in
+    let own = paid_of_row args.rows.now args.game c.loop-i.i c.read_row-row.result c.read_row-row.ensures c.paid_for-own.result c.paid_for-own.ensures in
+    record {
+      place = omega (arith, c.requires.rows.few, c.loop-i-test.true);
+      room = stakes_room args.rows.now args.full.now args.game 6 turn.i c.paid_for-own.result turn.six turn.invariant.3 c.read_row-row.result c.read_row-row.ensures own args.live c.requires.rows c.loop-i-test.true;
+    }
 
 pub with_ticket-eight-requires : goal.with_ticket-eight-requires
 with_ticket-eight-requires c =
     let args = c.args in
-    let turn = c.loop-i in (
-      omega (arith, c.requires.0.few, c.loop-i-test.true),
-      stakes_room args.rows.now args.full.now args.game 8 turn.i c.paid_for-own.result turn.eight turn.invariant.4 c.read_row-row.result c.read_row-row.ensures (own-paid c.before.before) args.live c.requires.0 c.loop-i-test.true,
-    )
+    let turn = c.loop-i in
+    let own = paid_of_row args.rows.now args.game c.loop-i.i c.read_row-row.result c.read_row-row.ensures c.paid_for-own.result c.paid_for-own.ensures in
+    record {
+      place = omega (arith, c.requires.rows.few, c.loop-i-test.true);
+      room = stakes_room args.rows.now args.full.now args.game 8 turn.i c.paid_for-own.result turn.eight turn.invariant.4 c.read_row-row.result c.read_row-row.ensures own args.live c.requires.rows c.loop-i-test.true;
+    }
 
 pub overflow_add-i : goal.overflow_add-i
 overflow_add-i c =
-    omega (arith, c.loop-i-test.true, c.requires.0.few)
+    omega (arith, c.loop-i-test.true, c.requires.rows.few)
 
 pub loop-i-smaller : goal.loop-i-smaller
 loop-i-smaller c = omega (arith, c.loop-i-test.true)
@@ -103,13 +93,14 @@ pub loop-i-preserved : goal.loop-i-preserved
 loop-i-preserved c =
     let args = c.args in
     let turn = c.loop-i in
+    let own = paid_of_row args.rows.now args.game c.loop-i.i c.read_row-row.result c.read_row-row.ensures c.paid_for-own.result c.paid_for-own.ensures in
     let six = c.with_ticket-six in
     let eight = c.with_ticket-eight in (
       omega (arith, c.loop-i-test.true),
-      omega (arith, turn.invariant.1, sum_take_more args.paid.now turn.i (omega (arith, c.requires.1, c.loop-i-test.true))),
-      omega (arith, turn.invariant.2, own-paid c.before.before.before, paid_more args.rows.now args.game turn.i),
-      stakes_next args.rows.now args.full.now args.game 6 turn.i c.paid_for-own.result turn.six turn.invariant.3 c.read_row-row.result c.read_row-row.ensures (own-paid c.before.before.before) six.result six.ensures.0 six.ensures.1.0 six.ensures.1.1,
-      stakes_next args.rows.now args.full.now args.game 8 turn.i c.paid_for-own.result turn.eight turn.invariant.4 c.read_row-row.result c.read_row-row.ensures (own-paid c.before.before.before) eight.result eight.ensures.0 eight.ensures.1.0 eight.ensures.1.1,
+      omega (arith, turn.invariant.1, sum_take_more args.paid.now turn.i (omega (arith, c.requires.prizes, c.loop-i-test.true))),
+      omega (arith, turn.invariant.2, own, paid_more args.rows.now args.game turn.i),
+      stakes_next args.rows.now args.full.now args.game 6 turn.i c.paid_for-own.result turn.six turn.invariant.3 c.read_row-row.result c.read_row-row.ensures own six.result six.ensures.same six.ensures.paid six.ensures.winning,
+      stakes_next args.rows.now args.full.now args.game 8 turn.i c.paid_for-own.result turn.eight turn.invariant.4 c.read_row-row.result c.read_row-row.ensures own eight.result eight.ensures.same eight.ensures.paid eight.ensures.winning,
     )
 
 pub returns : goal.returns

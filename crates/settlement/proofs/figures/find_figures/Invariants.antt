@@ -1,14 +1,10 @@
 -- `settlement::figures::find_figures` meets its contract: each turn adds one row's figures, and each total is that of the rows passed, within so many
 -- of the most that one row adds.
-use Prim.Native.Nat.{◌+◌, ◌-◌, ◌≤◌}
-use mathlib.Core.Path.{◌≡◌, refl, sym, ap, ◌∙◌, subst⁻¹}
-use native.Mathlib.Omega.{arith}
+use Prim.Native.Nat.{◌-◌, ◌≤◌}
+use mathlib.Core.Path.{◌≡◌}
 use lib.ListN.{take}
 use Rattle.sale.specs.Lists.{sum}
-use Rattle.house.specs.View.{Affordable}
-use Rattle.settlement.specs.Sharing.{paid_at, paid_in, stakes_of, figures_of}
-use Rattle.settlement.proofs.SharingLaws.{paid_of_row, paid_none, paid_more, paid_within, paid_at_within, no_stakes, stakes_room, stakes_next}
-use Rattle.settlement.proofs.TablePlaces.{sum_take_more, sum_take_within}
+use Rattle.settlement.specs.Sharing.{paid_in, stakes_of}
 use Rattle.settlement.proofs.figures.find_figures.Given as goal
 
 abbrev pub invariant-loop-i : goal.invariant-loop-i

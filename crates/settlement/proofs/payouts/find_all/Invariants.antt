@@ -1,8 +1,6 @@
 -- `settlement::payouts::find_all` meets its contract: each turn adds one ticket's figures to the tables and its major prizes to the list.
 use Prim.Native.Nat.{◌-◌}
-use native.Mathlib.Omega.{arith}
-use borrow.Author.Rules.{rules}
-use Rattle.settlement.proofs.PassSteps.{Finding, finding_none, finding_more, finding_all}
+use Rattle.settlement.proofs.PassSteps.{Finding}
 use Rattle.settlement.proofs.payouts.find_all.Given as goal
 
 abbrev pub invariant-loop-i : goal.invariant-loop-i

@@ -1,5 +1,4 @@
 -- `settlement::payouts::own_marks` meets its contract: the 80 marks from the ticket's place on are its own.
-use borrow.Author.Rules.{rules}
 use Rattle.settlement.proofs.TablePlaces.{marks_part}
 use Rattle.settlement.proofs.payouts.own_marks.Goals as goal
 

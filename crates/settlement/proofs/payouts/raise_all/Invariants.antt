@@ -1,16 +1,11 @@
 -- `settlement::payouts::raise_all` meets its contract: each turn raises one ticket's major prizes, which stand in the table behind those of the tickets
 -- before it, and the places ahead stand as they did.
-use Prim.Native.Nat.{ℕ, ◌+◌, ◌-◌, ◌<◌}
-use mathlib.Core.Path.{◌≡◌, refl, sym, ap, ◌∙◌}
-use mathlib.Core.List.{List, [], map}
-use native.Mathlib.Omega.{arith}
-use lib.ListN.{length, get_or}
-use borrow.Author.Rules.{rules}
-use Rattle.sale.specs.Lists.{sum, keep}
-use Rattle.prizes.specs.Prize.{is_major}
-use Rattle.prizes.specs.Cut.{payout}
-use Rattle.settlement.specs.Passing.{sure_cents, all_majors, Cutting}
-use Rattle.settlement.proofs.PassSteps.{start_next, raise_asks, raise_gives, paid_small, Raising, raising_none, sure_ahead, raising_more, raising_all}
+use Prim.Native.Nat.{ℕ, ◌-◌}
+use mathlib.Core.Path.{◌≡◌}
+use mathlib.Core.List.{List}
+use lib.ListN.{length}
+use Rattle.settlement.specs.Passing.{Cutting}
+use Rattle.settlement.proofs.PassSteps.{Raising}
 use Rattle.settlement.proofs.payouts.raise_all.Given as goal
 
 abbrev pub invariant-loop-i : goal.invariant-loop-i

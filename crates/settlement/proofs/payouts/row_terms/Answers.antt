@@ -1,5 +1,4 @@
 -- `settlement::payouts::row_terms` meets its contract: the kind is that of its number, and the other words are the terms.
-use borrow.Author.Rules.{rules}
 use Rattle.settlement.proofs.payouts.row_terms.Goals as goal
 
 pub returns : goal.returns

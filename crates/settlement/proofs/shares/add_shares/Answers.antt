@@ -1,44 +1,12 @@
 -- `settlement::shares::add_shares` meets its contract: each turn joins one row's share to what its ticket is paid, and the odd cents fall by its ways.
-use Prim.Native.Nat.{◌+◌, ◌-◌, ◌*◌, ◌≤◌, min}
+use Prim.Native.Nat.{◌+◌, ◌*◌, min}
 use mathlib.Core.Path.{◌≡◌, ap, ◌∙◌}
 use native.Mathlib.Omega.{arith}
-use borrow.Author.Rules.{rules}
 use Rattle.prizes.specs.Jackpots.{share_of, shares_from}
-use Rattle.prizes.proofs.ShareLaws.{winning_ways}
 use Rattle.settlement.specs.Sharing.{winner_at, winners_in}
 use Rattle.settlement.proofs.JoinedTables.{joined_to}
 use Rattle.settlement.proofs.SharingLaws.{ways_none, ways_more, sharing_at, share_most, given_none, given_next, given_more, given_all, row_count, row_sharing, row_share}
 use Rattle.settlement.proofs.shares.add_shares.Goals as goal
-use Rattle.settlement.proofs.shares.add_shares.Lts
-use Rattle.settlement.proofs.shares.add_shares.Reads
-use Rattle.settlement.proofs.shares.add_shares.Tie
-
-abbrev After-winning_ways-count : Type 0
-After-winning_ways-count = Lts.After-winning_ways Tie.the-claims Reads.Pre Reads.Post goal.the-invariant-loop-i goal.the-decreases-loop-i
-
-abbrev After-shares_of-share : Type 0
-After-shares_of-share = Lts.After-shares_of Tie.the-claims Reads.Pre Reads.Post goal.the-invariant-loop-i goal.the-decreases-loop-i
-
-
--- the row's winning ways and its share as the code finds them
-row-ways : (c : After-winning_ways-count) →
-    let turn = c.loop-i in
-    let args = c.args in
-    c.winning_ways-count.result ≡ (winner_at args.rows.now args.full.now args.jackpot turn.i).count
-row-ways c =
-    let turn = c.loop-i in
-    let args = c.args in
-    row_count args.rows.now args.full.now args.jackpot turn.i c.read_row-row.result c.read_row-row.ensures c.winning_ways-count.result c.winning_ways-count.ensures
-
-share-found : (c : After-shares_of-share) →
-    let args = c.args in
-    let turn = c.loop-i in
-    let winner = winner_at args.rows.now args.full.now args.jackpot turn.i in
-    c.shares_of-share.result ≡ winner.count * share_of args.primary args.stakes winner.stake + min turn.left winner.count
-share-found c =
-    let turn = c.loop-i in
-    let args = c.args in
-    row_share args.rows.now args.full.now args.jackpot turn.i c.read_row-row.result c.read_row-row.ensures c.winning_ways-count.result c.winning_ways-count.ensures args.primary args.stakes turn.left c.shares_of-share.result c.shares_of-share.ensures
 
 pub loop-i-init : goal.loop-i-init
 loop-i-init c =
@@ -49,27 +17,27 @@ loop-i-init c =
     )
 
 pub read_row-row-requires : goal.read_row-row-requires
-read_row-row-requires c = omega (arith, c.requires.0.entered.few)
+read_row-row-requires c = omega (arith, c.requires.won.entered.few)
 
 pub offset_bounds-full-i : goal.offset_bounds-full-i
-offset_bounds-full-i c = omega (arith, c.requires.0.entered.few)
+offset_bounds-full-i c = omega (arith, c.requires.won.entered.few)
 
 pub bounds-full-i : goal.bounds-full-i
-bounds-full-i c = omega (arith, c.requires.0.entered.few)
+bounds-full-i c = omega (arith, c.requires.won.entered.few)
 
 pub shares_of-share-requires : goal.shares_of-share-requires
 shares_of-share-requires c =
     let args = c.args in
     let i = c.loop-i.i in
     row_sharing args.rows.now args.full.now args.jackpot i c.read_row-row.result c.read_row-row.ensures c.winning_ways-count.result c.winning_ways-count.ensures args.primary args.stakes
-    (sharing_at args.rows.now args.full.now args.jackpot args.live args.primary args.stakes c.requires.0 i c.loop-i-test.true)
+    (sharing_at args.rows.now args.full.now args.jackpot args.live args.primary args.stakes c.requires.won i c.loop-i-test.true)
 
 pub offset_bounds-paid-i : goal.offset_bounds-paid-i
-offset_bounds-paid-i c = omega (arith, c.loop-i-test.true, c.requires.0.entered.few)
+offset_bounds-paid-i c = omega (arith, c.loop-i-test.true, c.requires.won.entered.few)
 
 pub bounds-paid-i : goal.bounds-paid-i
 bounds-paid-i c =
-    omega (arith, c.loop-i-test.true, c.requires.0.entered.few)
+    omega (arith, c.loop-i-test.true, c.requires.won.entered.few)
 
 pub overflow_add-paid : goal.overflow_add-paid
 overflow_add-paid c =
@@ -77,39 +45,28 @@ overflow_add-paid c =
     let turn = c.loop-i in
     omega (
       arith,
-      share-found c.before,
-      share_most args.rows.now args.full.now args.jackpot args.live args.primary args.stakes c.requires.0 turn.i turn.left c.loop-i-test.true,
+      row_share args.rows.now args.full.now args.jackpot turn.i c.read_row-row.result c.read_row-row.ensures c.winning_ways-count.result c.winning_ways-count.ensures args.primary args.stakes turn.left c.shares_of-share.result c.shares_of-share.ensures,
+      share_most args.rows.now args.full.now args.jackpot args.live args.primary args.stakes c.requires.won turn.i turn.left c.loop-i-test.true,
       given_next args.rows.now args.full.now args.jackpot args.odd args.primary args.stakes args.paid.now turn.paid turn.i turn.invariant.2,
-      c.requires.1 turn.i c.loop-i-test.true,
-      c.requires.0.pool,
+      c.requires.room turn.i c.loop-i-test.true,
+      c.requires.won.pool,
     )
-
-pub bounds-paid-i-in-loop-i : goal.bounds-paid-i-in-loop-i
-bounds-paid-i-in-loop-i c =
-    omega (arith, c.loop-i-test.true, c.requires.0.entered.few)
-
-pub overflow_add-i : goal.overflow_add-i
-overflow_add-i c = omega (arith, c.loop-i-test.true, c.requires.0.entered.few)
-
-pub loop-i-smaller : goal.loop-i-smaller
-loop-i-smaller c = omega (arith, c.loop-i-test.true)
 
 pub loop-i-preserved : goal.loop-i-preserved
 loop-i-preserved c =
     let args = c.args in
     let turn = c.loop-i in
-    let winners = winners_in args.rows.now args.full.now args.jackpot turn.i in
     let winner = winner_at args.rows.now args.full.now args.jackpot turn.i in (
       omega (arith, c.loop-i-test.true),
       omega (
         arith,
         c.odd_after-left.ensures,
-        row-ways c.before.before.before,
+        row_count args.rows.now args.full.now args.jackpot turn.i c.read_row-row.result c.read_row-row.ensures c.winning_ways-count.result c.winning_ways-count.ensures,
         turn.invariant.1,
         ways_more args.rows.now args.full.now args.jackpot turn.i,
       ),
       given_more args.rows.now args.full.now args.jackpot args.odd args.primary args.stakes args.paid.now turn.paid turn.i c.shares_of-share.result turn.invariant.2
-          (share-found c.before.before
+          ((row_share args.rows.now args.full.now args.jackpot turn.i c.read_row-row.result c.read_row-row.ensures c.winning_ways-count.result c.winning_ways-count.ensures args.primary args.stakes turn.left c.shares_of-share.result c.shares_of-share.ensures)
           ∙ ap (λ n. winner.count * share_of args.primary args.stakes winner.stake + min n winner.count) turn.invariant.1),
     )
 

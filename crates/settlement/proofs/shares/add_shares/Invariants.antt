@@ -1,13 +1,10 @@
 -- `settlement::shares::add_shares` meets its contract: each turn joins one row's share to what its ticket is paid, and the odd cents fall by its ways.
-use Prim.Native.Nat.{◌+◌, ◌-◌, ◌*◌, ◌≤◌, min}
-use mathlib.Core.Path.{◌≡◌, ap, ◌∙◌}
-use native.Mathlib.Omega.{arith}
-use borrow.Author.Rules.{rules}
-use Rattle.prizes.specs.Jackpots.{share_of, shares_from}
+use Prim.Native.Nat.{◌-◌, ◌≤◌}
+use mathlib.Core.Path.{◌≡◌}
+use Rattle.prizes.specs.Jackpots.{shares_from}
 use Rattle.prizes.proofs.ShareLaws.{winning_ways}
-use Rattle.settlement.specs.Sharing.{winner_at, winners_in}
+use Rattle.settlement.specs.Sharing.{winners_in}
 use Rattle.settlement.proofs.JoinedTables.{joined_to}
-use Rattle.settlement.proofs.SharingLaws.{ways_none, ways_more, sharing_at, share_most, given_none, given_next, given_more, given_all, row_count, row_sharing, row_share}
 use Rattle.settlement.proofs.shares.add_shares.Given as goal
 
 abbrev pub invariant-loop-i : goal.invariant-loop-i

@@ -1,12 +1,8 @@
 -- `settlement::shares::odd_cents` meets its contract: each turn adds one row's rounded shares, which are together within the primary.
-use Prim.Native.Nat.{◌+◌, ◌-◌, ◌*◌, ◌≤◌}
-use mathlib.Core.Path.{◌≡◌, ap, ◌∙◌}
-use native.Mathlib.Omega.{arith}
-use borrow.Author.Rules.{rules}
-use Rattle.prizes.specs.Jackpots.{share_of, odd_cents}
+use Prim.Native.Nat.{◌-◌, ◌≤◌}
+use mathlib.Core.Path.{◌≡◌}
 use Rattle.prizes.proofs.ShareLaws.{whole_shares}
 use Rattle.settlement.specs.Sharing.{winners_in}
-use Rattle.settlement.proofs.SharingLaws.{figures_none, figures_more, sharing_at, whole_so_far, row_sharing, row_share}
 use Rattle.settlement.proofs.shares.odd_cents.Given as goal
 
 abbrev pub invariant-loop-i : goal.invariant-loop-i

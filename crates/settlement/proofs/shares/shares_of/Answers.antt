@@ -2,7 +2,6 @@
 use native.Mathlib.Nat.{zero-mul}
 use native.Mathlib.Omega.{arith}
 use Rattle.prizes.specs.Jackpots.{share_of}
-use borrow.Author.Rules.{rules}
 use Rattle.settlement.proofs.shares.shares_of.Goals as goal
 
 pub returns-then-count-eq0 : goal.returns-then-count-eq0
