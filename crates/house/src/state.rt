@@ -79,6 +79,7 @@ impl House {
         }
     }
     // The first game that is not being drawn: where a new ticket begins, and what Cancel can still take off.
+    #[tactic(auto, using(crate::proofs::ViewLaws::next_waiting, crate::proofs::ViewLaws::next_drawing))]
     pub fn first_game(self) -> u64
         requires { InGames self }
         ensures { (words marks : List ℕ) → result ≡ next_game (view self words marks) }
