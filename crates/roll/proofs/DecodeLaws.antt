@@ -1,15 +1,16 @@
 -- What the decoder answers: where it stops, what a whole command is, and that it is the command that its bytes stand for. What is shown of each row of
 -- the table, in one list of records (`rows_hold`), holds of the row that a byte has.
 use Prim.Native.Nat.{ℕ, suc, ◌+◌, ◌-◌, ◌≤◌, ◌<◌}
+use native.Mathlib.Nat.{lt_irrefl}
 use native.Mathlib.Numerals.{add-one}
 use native.Mathlib.Omega.{arith}
 use mathlib.Core.Path.{◌≡◌, refl, sym, ap, subst, ◌∙◌}
 use mathlib.Core.Bool.{Bool, true, false, cond, ◌||◌}
 use mathlib.Core.List.{List, [], ◌∷◌, map}
 use lib.Dec.{ltb, leb, eqb}
-use lib.ListN.{length, get_or, take, drop, length-drop}
+use lib.ListN.{length, get_or, take, drop, length-drop, length-take, drop_of_length-le}
 use lib.Seq.{drop-cons, drop-drop}
-use borrow.Author.Tests.{ltb-false, lt-ltb, le-ltb, ne_eqb, eqb-true}
+use borrow.Author.Tests.{leb-true, ltb-false, lt-ltb, le-ltb, ne_eqb, eqb-true}
 use Rattle.numbers.specs.Bytes.{number_of}
 use Rattle.numbers.proofs.ByteLaws.{part_of_first, byte_of_part, two_bytes_below}
 use Rattle.sale.specs.declared.terms.Feature.{Feature}
@@ -17,7 +18,7 @@ use Rattle.house.specs.Commands.{open'}
 use Rattle.house.proofs.Ledger.{All}
 use Rattle.house.proofs.EachCommand.{ShortDay}
 use Rattle.commands.specs.declared.command.Command.{Command}
-use Rattle.roll.specs.Decode.{CommandRow, command_rows, CommandByte, unknown, known, row_among, command_row, sale_in, command_of, byte_of}
+use Rattle.roll.specs.Decode.{marks_in, CommandRow, command_rows, CommandByte, unknown, known, row_among, command_row, sale_in, command_of, byte_of}
 use Rattle.roll.specs.Orders.{operands_by, operand_length, operand_bytes, decoded_by, CommandSize, decoded_at}
 use Rattle.roll.specs.declared.decode.Decoded.TheVariants.{Whole, Stop}
 use Rattle.roll.specs.declared.decode.OperandLength.TheVariants.{Bytes, Unknown}
@@ -221,3 +222,17 @@ stands (byte ∷ rest) order size e = go (command_row byte) (ltb (length rest) (
 -- it has marks, or ends before them
 pub size_apart : {roll : List ℕ} {order : Command} {size : ℕ} → Stands roll order size → CommandSize size
 size_apart s = subst CommandSize (sym s.long) (row_found s.byte s.row s.has).1.apart
+
+-- a command that is too short for marks has at most eight operand bytes, so that no byte of them is lent: none from a place to itself is
+pub no_marks :
+    (l : List ℕ) (at size : ℕ) → CommandSize size → size < 89 → take (at - at) (drop at l) ≡ marks_in (take (size - 1) (drop (at + 1) l))
+no_marks l at size sized short =
+    let none : at - at ≡ 0 = omega arith in
+    ap (λ n. take n (drop at l)) none ∙ ap (take 80) (sym (drop_of_length-le (take (size - 1) (drop (at + 1) l)) few))
+  where
+    by : (b : Bool) → leb size 9 ≡ b → (b || leb 89 size) ≡ true → size ≤ 9
+    by true e apart = leb-true size 9 e
+    by false e apart = absurd (lt_irrefl size (omega (arith, short, leb-true 89 size apart)))
+
+    few : length (take (size - 1) (drop (at + 1) l)) ≤ 8
+    few = omega (arith, length-take (size - 1) (drop (at + 1) l), by (leb size 9) refl sized.apart)

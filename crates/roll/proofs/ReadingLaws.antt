@@ -15,11 +15,13 @@ use Rattle.house.specs.Model.{Model}
 use Rattle.house.specs.Commands.{step}
 use Rattle.commands.specs.Meant.{meant}
 use Rattle.house.specs.declared.answer.Answer.{Answer}
+use Rattle.house.specs.declared.state.House.{House}
+use Rattle.house.specs.View.{view}
 use Rattle.commands.specs.declared.command.Command.{Command}
 use Rattle.numbers.specs.Bytes.{bytes_of}
 use Rattle.roll.specs.Decode.{marks_in, CommandRow, CommandByte, unknown, known, command_row, command_of, record_of}
 use Rattle.roll.specs.Reading.{Reading, stopped, answered, turn_at, read_turns, read_roll, AllRefused}
-use Rattle.roll.specs.Orders.{operands_by, decoded_by, decoded_at, verdict_of}
+use Rattle.roll.specs.Orders.{operands_by, decoded_by, decoded_at, verdict_of, reading_of}
 use Rattle.roll.specs.declared.decode.Decoded.TheVariants.{Whole, Stop}
 use Rattle.roll.specs.declared.reader.Verdict.TheVariants.{Accepted, Refused}
 use Rattle.roll.proofs.DecodeLaws.{Stands}
@@ -167,6 +169,10 @@ verdict_refused a code e zero_code =
     absurd (omega arith)
 
 -- ---- the whole reading, by what is left of it
+
+-- no command that a roll has answered is accepted
+abbrev pub Quiet : House → List ℕ → List ℕ → List ℕ → List ℕ → Type 0
+Quiet h words marks roll book = AllRefused (view h words marks) (reading_of h words marks roll book).commands
 
 -- a reading that some answers stand before
 pub record Joins (whole left : Reading) (front : List ℕ) (read answers : ℕ) : Type 0 where

@@ -48,6 +48,7 @@ fn stop_code(decoded: Decoded) -> u8
 }
 
 // What is lent with a command of so many bytes that starts at a place: the marks of a sale, from the roll itself. Another command is too short for any.
+#[tactic(auto, using(crate::proofs::DecodeLaws::no_marks))]
 fn marks_of(roll: &[u8], at: usize, size: usize) -> &[u8]
     requires { CommandSize size × (at + size ≤ length roll.now) }
     ensures { result.now ≡ marks_in (take (size - 1) (drop (at + 1) roll.now)) }

@@ -4,7 +4,6 @@ use mathlib.Core.Path.{◌≡◌, sym, ap, ◌∙◌}
 use native.Mathlib.Omega.{arith}
 use lib.ListN.{take, drop}
 use lib.Seq.{drop-drop}
-use borrow.Author.Rules.{rules}
 use Rattle.numbers.specs.Bytes.{number_of}
 use Rattle.numbers.proofs.ByteLaws.{past_first}
 use Rattle.sale.specs.declared.terms.Feature.TheVariants.{LuckyLast}

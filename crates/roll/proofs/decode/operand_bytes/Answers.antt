@@ -1,5 +1,6 @@
 -- `roll::decode::operand_bytes` meets its contract: each arm is the table's row for its command byte.
 use mathlib.Core.Path.{sym, ap}
+use borrow.Author.Rules.{rules}
 use Rattle.roll.specs.Decode.{command_rows, row_among, command_row}
 use Rattle.roll.specs.Orders.{operand_length}
 use Rattle.roll.proofs.DecodeLaws.{other_row}
@@ -39,4 +40,4 @@ returns-in-8 c = ap (λ b. operand_length (command_row b)) (sym c.in-8.is)
 
 pub returns-in_default : goal.returns-in_default
 unfolding command_rows
-returns-in_default c = sym (ap operand_length (other_row c.args.byte c.in_default.rest))
+returns-in_default c = sym (ap operand_length (other_row c.args.byte (search rules)))

@@ -112,4 +112,4 @@ pub returns-in_default : goal.returns-in_default
 unfolding command_rows
 returns-in_default c =
     let args = c.args in
-    sym (ap (λ looked. decoded_by looked (drop args.at args.roll.now) args.size) (other_row args.byte c.in_default.rest))
+    sym (ap (λ looked. decoded_by looked (drop args.at args.roll.now) args.size) (other_row args.byte (search rules)))

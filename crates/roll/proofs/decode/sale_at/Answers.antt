@@ -1,5 +1,4 @@
 -- `roll::decode::sale_at` meets its contract: each field is its byte or bytes of the part.
-use borrow.Author.Rules.{rules}
 use Rattle.roll.proofs.DecodeLaws.{sale_in_lem}
 use Rattle.roll.proofs.decode.sale_at.Goals as goal
 

@@ -1,5 +1,4 @@
 -- `text::decimal::put_byte` meets its contract: one store puts one byte at its place.
-use borrow.Author.Rules.{rules}
 use Rattle.text.proofs.PlaceLaws.{wrote_one}
 use Rattle.text.proofs.decimal.put_byte.Goals as goal
 

@@ -1,5 +1,4 @@
 -- `text::lines::put_answer_line` meets its contract: the line is four figures and a line's end.
-use borrow.Author.Rules.{rules}
 use mathlib.Core.Path.{sym, ap}
 use native.Mathlib.Omega.{arith}
 use lib.ListN.{length}

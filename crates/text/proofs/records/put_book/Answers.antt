@@ -1,11 +1,9 @@
 -- `text::records::put_book` meets its contract. The loop's invariant: the lines of the records passed stand at the buffer's start, and take at
 -- most 40 bytes each. The measure is the number of records left.
-use Prim.Native.Nat.{◌*◌, ◌-◌, ◌≤◌}
 use mathlib.Core.Path.{◌≡◌, refl, sym, ap, ◌∙◌}
 use native.Mathlib.Omega.{arith}
 use native.Mathlib.Numerals.{add-one}
-use lib.ListN.{length}
-use Rattle.text.specs.Lines.{Wrote, book_lines}
+use Rattle.text.specs.Lines.{book_lines}
 use Rattle.text.proofs.PlaceLaws.{wrote_none, wrote_more, wrote_as}
 use Rattle.text.proofs.LineLaws.{book_more}
 use Rattle.text.proofs.records.put_book.Goals as goal
@@ -13,18 +11,6 @@ use Rattle.text.proofs.records.put_book.Goals as goal
 pub loop-i-init : goal.loop-i-init
 unfolding book_lines
 loop-i-init c = (omega arith, wrote_none _, omega arith, refl)
-
-pub overflow_mul-i : goal.overflow_mul-i
-overflow_mul-i c = omega arith
-
-pub put_record_line-at-requires : goal.put_record_line-at-requires
-put_record_line-at-requires c = (omega arith, omega arith)
-
-pub overflow_add-i : goal.overflow_add-i
-overflow_add-i c = omega arith
-
-pub loop-i-smaller : goal.loop-i-smaller
-loop-i-smaller c = omega arith
 
 pub loop-i-preserved : goal.loop-i-preserved
 loop-i-preserved c =
@@ -35,11 +21,8 @@ loop-i-preserved c =
       wrote_as (sym (book_more i book) ∙ ap (λ k. book_lines k book) (sym (add-one i)))
           (wrote_more (omega (arith, inv.0, inv.1.ends, inv.2, c.requires.lines)) inv.1 c.put_record_line-at.ensures.0),
       omega (arith, inv.2, c.put_record_line-at.ensures.1),
-      c.put_record_line-at.auto.0 ∙ inv.3,
+      c.put_record_line-at.auto.out ∙ inv.3,
     )
-
-pub shape_of-out : goal.shape_of-out
-shape_of-out c = c.loop-i.invariant.3
 
 pub returns : goal.returns
 returns c =

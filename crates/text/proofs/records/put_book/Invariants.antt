@@ -1,13 +1,9 @@
 -- `text::records::put_book` meets its contract. The loop's invariant: the lines of the records passed stand at the buffer's start, and take at
 -- most 40 bytes each. The measure is the number of records left.
 use Prim.Native.Nat.{◌*◌, ◌-◌, ◌≤◌}
-use mathlib.Core.Path.{◌≡◌, refl, sym, ap, ◌∙◌}
-use native.Mathlib.Omega.{arith}
-use native.Mathlib.Numerals.{add-one}
+use mathlib.Core.Path.{◌≡◌}
 use lib.ListN.{length}
 use Rattle.text.specs.Lines.{Wrote, book_lines}
-use Rattle.text.proofs.PlaceLaws.{wrote_none, wrote_more, wrote_as}
-use Rattle.text.proofs.LineLaws.{book_more}
 use Rattle.text.proofs.records.put_book.Given as goal
 
 abbrev pub invariant-loop-i : goal.invariant-loop-i

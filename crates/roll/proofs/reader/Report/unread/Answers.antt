@@ -4,7 +4,6 @@ use native.Mathlib.Omega.{arith}
 use mathlib.Core.Path.{◌≡◌, sym, ap, ◌∙◌}
 use lib.ListN.{length, take, drop, drop_of_length-le, length-drop}
 use lib.Seq.{take_all}
-use borrow.Author.Rules.{rules}
 use Rattle.roll.proofs.reader.Report.unread.Goals as goal
 
 pub returns-then-end-read : goal.returns-then-end-read
