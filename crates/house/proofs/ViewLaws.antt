@@ -2,7 +2,7 @@
 use Prim.Native.Nat.{ℕ, ◌+◌, ◌*◌, ◌≤◌, ◌<◌}
 use native.Mathlib.Omega.{arith}
 use mathlib.Core.Path.{◌≡◌, refl, sym, ap, subst, ◌∙◌}
-use mathlib.Core.Bool.{cond, not}
+use mathlib.Core.Bool.{false, cond, not}
 use mathlib.Core.List.{List, map}
 use lib.Dec.{eqb, ltb}
 use lib.ListN.{length, get_or, take}
@@ -10,9 +10,10 @@ use lib.Seq.{ext_get_or}
 use borrow.Author.Tests.{eq-eqb, ne_eqb}
 use Rattle.sale.specs.Lists.{below}
 use Rattle.house.specs.Tickets.{Ticket}
-use Rattle.house.specs.Model.{is_drawing, next_game}
-use Rattle.house.specs.Commands.{Command, Answer, blank_ticket, ticket_at, has_ticket, code_of, act, reply, answer_of}
-use Rattle.house.specs.View.{ticket_in, tickets_of, place_of, RisingRows, view}
+use Rattle.house.specs.Model.{Model, is_drawing, next_game}
+use Rattle.calendar.specs.Bounds.{ExpiryBound}
+use Rattle.house.specs.Commands.{Command, Answer, is_expired, blank_ticket, ticket_at, has_ticket, code_of, act, reply, answer_of}
+use Rattle.house.specs.View.{row_at, DayTells, ticket_in, tickets_of, place_of, RisingRows, view}
 use Rattle.house.specs.Parts.{Carried}
 use Rattle.house.specs.declared.state.House.{House}
 use Rattle.house.proofs.Ledger.{All, with_live}
@@ -130,3 +131,20 @@ module _ (h : House) (words marks : List ℕ) where
     view_ticket b =
         place_ticket n (view h words marks).live
         ∙ get_or_table (ticket_in words marks) h.live (place_of n (view h words marks).live) blank_ticket b
+
+-- ---- a ticket that expires
+
+-- without a finishing day a ticket is not finished
+pub stands_unfinished : (rows marks : List ℕ) (i day : ℕ) (m : Model) → DayTells m.game (ticket_in rows marks i) → day ≡ (row_at rows i).finished → day ≡ 0 →
+    false ≡ is_expired m (ticket_in rows marks i)
+unfolding is_expired
+stands_unfinished rows marks i day m tells same none = rw (tells.tells, eq-eqb (ticket_in rows marks i).finished_day 0 (sym same ∙ none))
+
+-- with one the day's bound tells
+pub expires_by_bound :
+    (rows marks : List ℕ) (i day bound : ℕ) (m : Model) → DayTells m.game (ticket_in rows marks i) → ExpiryBound m.day bound → day ≡ (row_at rows i).finished → (day ≡ 0 → ⊥) →
+    ltb day bound ≡ is_expired m (ticket_in rows marks i)
+unfolding is_expired
+expires_by_bound rows marks i day bound m tells bounded same some =
+    rw (tells.tells, ne_eqb (ticket_in rows marks i).finished_day 0 (λ none. some (same ∙ none)))
+    (ap (λ d. ltb d bound) same ∙ sym (bounded.before (ticket_in rows marks i).finished_day))

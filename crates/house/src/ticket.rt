@@ -40,6 +40,7 @@ pub fn is_closed(game: u64, row: Row) -> bool
 
 // Whether the ticket at a place has expired, by the day's bound. A ticket that is not finished has no finishing day, so that no other word of it is
 // read.
+#[tactic(auto, using(crate::proofs::ViewLaws::stands_unfinished, crate::proofs::ViewLaws::expires_by_bound))]
 pub fn is_expired(rows: &[u64; 3200], i: usize, bound: u64) -> bool
     requires { IsRow i }
     ensures { (m : Model) (marks : List ℕ)
