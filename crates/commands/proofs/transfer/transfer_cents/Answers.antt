@@ -2,7 +2,6 @@
 -- has room for it.
 use native.Mathlib.Omega.{arith}
 use mathlib.Core.Path.{sym, ap, ◌∙◌}
-use borrow.Author.Rules.{rules}
 use borrow.Author.Tests.{eq-eqb, ne_eqb}
 use Rattle.house.specs.Commands.{transfer, transferred, act, reply}
 use Rattle.house.specs.View.{view}

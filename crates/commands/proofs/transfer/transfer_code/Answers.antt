@@ -4,7 +4,6 @@ use mathlib.Core.Path.{◌≡◌, refl, sym, ap, ◌∙◌}
 use mathlib.Core.Bool.{Bool, true, false, cond, not, ◌||◌}
 use mathlib.Core.List.{List}
 use lib.Dec.{ltb, eqb}
-use borrow.Author.Rules.{rules}
 use borrow.Author.Tests.{lt-ltb, le-ltb, eq-eqb, ne_eqb}
 use Rattle.sale.specs.Checks.{first_met}
 use Rattle.house.specs.Commands.{transfer, rows_of, code_of}
@@ -38,28 +37,28 @@ pub returns-then-not-is_jackpot : goal.returns-then-not-is_jackpot
 returns-then-not-is_jackpot c =
     let args = c.args in
     by_tests args.house args.jackpot args.cents false true _ _ (ne_eqb args.house.day 0 c.if-house-eq0.false)
-    (ap not (sym c.is_jackpot.ensures) ∙ c.if-not-is_jackpot.true) refl refl
+    (ap not (sym c.is_jackpot.ensures ∙ c.if-not-is_jackpot.true)) refl refl
 
 pub returns-then-house-ne0 : goal.returns-then-house-ne0
 returns-then-house-ne0 c =
     let args = c.args in
-    by_tests args.house args.jackpot args.cents false false true _ (ne_eqb args.house.day 0 c.if-house-eq0.false) (ap not (sym c.is_jackpot.ensures) ∙ c.if-not-is_jackpot.false)
+    by_tests args.house args.jackpot args.cents false false true _ (ne_eqb args.house.day 0 c.if-house-eq0.false) (ap not (sym c.is_jackpot.ensures ∙ c.if-not-is_jackpot.false))
     (ap not (ne_eqb args.house.drawn 0 c.if-house-ne0.true)) refl
 
 pub returns-then-cents-eq0 : goal.returns-then-cents-eq0
 returns-then-cents-eq0 c =
     let args = c.args in
-    by_tests args.house args.jackpot args.cents false false false true (ne_eqb args.house.day 0 c.if-house-eq0.false) (ap not (sym c.is_jackpot.ensures) ∙ c.if-not-is_jackpot.false) (ap not (eq-eqb args.house.drawn 0 c.if-house-ne0.false))
+    by_tests args.house args.jackpot args.cents false false false true (ne_eqb args.house.day 0 c.if-house-eq0.false) (ap not (sym c.is_jackpot.ensures ∙ c.if-not-is_jackpot.false)) (ap not (eq-eqb args.house.drawn 0 c.if-house-ne0.false))
     (rw (eq-eqb args.cents 0 c.if-cents-eq0.true))
 
 pub returns-then-house-cents : goal.returns-then-house-cents
 returns-then-house-cents c =
     let args = c.args in
-    by_tests args.house args.jackpot args.cents false false false true (ne_eqb args.house.day 0 c.if-house-eq0.false) (ap not (sym c.is_jackpot.ensures) ∙ c.if-not-is_jackpot.false) (ap not (eq-eqb args.house.drawn 0 c.if-house-ne0.false))
+    by_tests args.house args.jackpot args.cents false false false true (ne_eqb args.house.day 0 c.if-house-eq0.false) (ap not (sym c.is_jackpot.ensures ∙ c.if-not-is_jackpot.false)) (ap not (eq-eqb args.house.drawn 0 c.if-house-ne0.false))
     (rw (ne_eqb args.cents 0 c.if-cents-eq0.false) (lt-ltb args.house.counters.unclaimed args.cents c.if-house-cents.true))
 
 pub returns : goal.returns
 returns c =
     let args = c.args in
-    by_tests args.house args.jackpot args.cents false false false false (ne_eqb args.house.day 0 c.if-house-eq0.false) (ap not (sym c.is_jackpot.ensures) ∙ c.if-not-is_jackpot.false) (ap not (eq-eqb args.house.drawn 0 c.if-house-ne0.false))
+    by_tests args.house args.jackpot args.cents false false false false (ne_eqb args.house.day 0 c.if-house-eq0.false) (ap not (sym c.is_jackpot.ensures ∙ c.if-not-is_jackpot.false)) (ap not (eq-eqb args.house.drawn 0 c.if-house-ne0.false))
     (rw (ne_eqb args.cents 0 c.if-cents-eq0.false) (le-ltb args.house.counters.unclaimed args.cents c.if-house-cents.false))

@@ -1,7 +1,6 @@
 -- `draw::ball::add_ball` meets its contract: fewer than twenty balls are in with it, so the game goes on.
 use native.Mathlib.Omega.{arith}
 use mathlib.Core.Path.{sym, ap, ◌∙◌}
-use borrow.Author.Rules.{rules}
 use Prim.Native.Nat.{◌+◌}
 use Rattle.house.specs.Commands.{ball, replies, answer_of}
 use Rattle.house.specs.View.{view}
@@ -17,6 +16,6 @@ returns c = λ words marks coded.
     let early = early_act (view house words marks) number (λ e. omega (arith, c.requires, in-now)) in
     carried_done house words marks (ball number) _ words marks _ coded
     (ap (λ h. view h words marks) c.accepted.ensures.0
-    ∙ entered_view house words marks number c.balls_with-balls.result (c.balls_with-balls.ensures.1 words marks)
+    ∙ entered_view house words marks number c.balls_with-balls.result (c.balls_with-balls.ensures.balls words marks)
     ∙ sym early.0)
     (c.accepted.ensures.1 ∙ ap (λ n. answer_of (replies (n + 1) 0)) (sym in-now) ∙ ap answer_of (sym early.1))

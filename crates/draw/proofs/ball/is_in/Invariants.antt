@@ -1,13 +1,10 @@
 -- `draw::ball::is_in` meets its contract: the number is none of the balls passed.
-use Prim.Native.Nat.{ℕ, ◌≤◌, ◌-◌}
-use native.Mathlib.Omega.{arith}
-use mathlib.Core.Path.{◌≡◌, sym, ap, ◌∙◌, subst}
+use Prim.Native.Nat.{◌≤◌, ◌-◌}
+use mathlib.Core.Path.{◌≡◌}
 use mathlib.Core.Bool.{false}
 use mathlib.Core.List.{map}
 use lib.ListN.{get_or}
-use Rattle.sale.specs.Lists.{below, any, member}
-use Rattle.settlement.proofs.TablePlaces.{table_more}
-use Rattle.draw.proofs.BallLaws.{member_later, member_table}
+use Rattle.sale.specs.Lists.{below, member}
 use Rattle.draw.proofs.ball.is_in.Given as goal
 
 abbrev pub invariant-loop-i : goal.invariant-loop-i

@@ -1,148 +1,132 @@
 -- `draw::game_end::close_ticket` meets its contract: a ticket that stays is stored at its new place, with the marks that it had.
-use Prim.Native.Nat.{ℕ, ◌+◌, ◌<◌}
+use Prim.Native.Nat.{ℕ, ◌+◌, ◌≤◌, ◌<◌}
 use native.Mathlib.Omega.{arith}
-use mathlib.Core.Path.{◌≡◌, refl, sym, ap, ◌∙◌}
-use mathlib.Core.Bool.{not}
+use mathlib.Core.Path.{◌≡◌, sym, ap, ◌∙◌}
+use mathlib.Core.Bool.{Bool, true, false, not}
 use mathlib.Core.List.{List, [], ◌∷◌, ◌++◌}
 use lib.ListN.{length, take, drop, set, get_or}
 use lib.Seq.{set-set}
 use Rattle.house.specs.Tickets.{Ticket, is_live}
 use Rattle.house.specs.Commands.{blank_ticket, still_live}
 use Rattle.draw.specs.Closing.{paid_ticket}
-use Rattle.house.specs.View.{marks_at, ticket_from, ticket_in, tickets_of}
+use Rattle.house.specs.View.{row_at, marks_at, ticket_from, ticket_in, tickets_of}
 use Rattle.house.specs.declared.rows.Row.{Row}
 use Rattle.house.proofs.RowLaws.{tickets_at, tickets_length}
 use Rattle.draw.proofs.ClosingLaws.{closed_stays, live_stays, rest_stays, moved_ticket}
-use borrow.Author.Rules.{rules}
 use borrow.Author.Tests.{not-true, not-false}
 use Rattle.draw.proofs.game_end.close_ticket.Goals as goal
-use Rattle.draw.proofs.game_end.close_ticket.Lts
-use Rattle.draw.proofs.game_end.close_ticket.Reads
-use Rattle.draw.proofs.game_end.close_ticket.Tie
 
-abbrev At-Start : Type 0
-At-Start = Lts.Start Tie.the-claims Reads.Pre Reads.Post
+-- the ticket at hand is at place `i` of the tickets as they were
+module _ (words marks : List ℕ) (i left : ℕ) (behind : left ≤ i) (within : i < 200) where
+  abbrev before : List Ticket
+  before = tickets_of words marks
 
-abbrev After-read_row-row : Type 0
-After-read_row-row = Lts.After-read_row Tie.the-claims Reads.Pre Reads.Post
+  long : i < length before
+  long = omega (arith, tickets_length words marks)
 
-abbrev After-closes : Type 0
-After-closes = Lts.After-closes Tie.the-claims Reads.Pre Reads.Post
+  -- the row that is read at the new place is the ticket's, before it is paid
+  moved_here : (words' marks' : List ℕ) (row : Row)
+      → tickets_of words' marks' ≡ set before left (get_or before i blank_ticket)
+      → row ≡ row_at words' left
+      → ticket_from row (marks_at marks' left) ≡ ticket_in words marks i
+  moved_here words' marks' row moved e =
+      ap (λ (r : Row). ticket_from r (marks_at marks' left)) e ∙ moved_ticket words marks words' marks' i left within (omega arith) moved
 
-abbrev After-move_ticket : Type 0
-After-move_ticket = Lts.After-move_ticket Tie.the-claims Reads.Pre Reads.Post
+  -- the tickets with the row that is stored there
+  stored : (words' marks' words'' : List ℕ) (row : Row) (t : Ticket)
+      → tickets_of words' marks' ≡ set before left (get_or before i blank_ticket)
+      → tickets_of words'' marks' ≡ set (tickets_of words' marks') left (ticket_from row (marks_at marks' left))
+      → ticket_from row (marks_at marks' left) ≡ t
+      → tickets_of words'' marks' ≡ set before left t
+  stored words' marks' words'' row t moved changed e =
+      changed
+      ∙ ap (λ (ts : List Ticket). set ts left (ticket_from row (marks_at marks' left))) moved
+      ∙ set-set before left _ _
+      ∙ ap (set before left) e
 
-abbrev After-read_row-moved : Type 0
-After-read_row-moved = Lts.After-read_row2 Tie.the-claims Reads.Pre Reads.Post
+  module _ (day game cents : ℕ) where
+    abbrev paid : Ticket
+    paid = paid_ticket day game cents (ticket_in words marks i)
 
+    -- a ticket that is the same once it is paid need not be stored again
+    same_stays : (words' marks' : List ℕ) (t : Ticket)
+        → tickets_of words' marks' ≡ set before left (get_or before i blank_ticket)
+        → t ≡ ticket_in words marks i
+        → paid_ticket day game cents t ≡ t
+        → tickets_of words' marks' ≡ set before left paid
+    same_stays words' marks' t moved here same =
+        moved ∙ ap (set before left) (tickets_at words marks i within ∙ sym here ∙ sym same ∙ ap (paid_ticket day game cents) here)
 
-abbrev tickets : At-Start → List Ticket
-tickets s = tickets_of s.args.rows.now s.args.marks.now
+    -- what is found of the row that was read says whether the ticket closes
+    module _ (row : Row) (found : Bool) (read : row ≡ row_at words i)
+        (answered : (d : ℕ) (m : List ℕ) → found ≡ not (is_live game (paid_ticket d game cents (ticket_from row m)))) where
+      found_here : not (is_live game paid) ≡ found
+      found_here =
+          ap (λ (r : Row). not (is_live game (paid_ticket day game cents (ticket_from r (marks_at marks i))))) (sym read)
+          ∙ sym (answered day (marks_at marks i))
 
-abbrev ticket : At-Start → Ticket
-ticket s = ticket_in s.args.rows.now s.args.marks.now s.args.i
+      closes : found ≡ true → take left before ≡ take left before ++ still_live game (paid ∷ [])
+      closes e = closed_stays before left i behind long game paid (not-true _ (found_here ∙ e))
 
-abbrev paid : At-Start → Ticket
-paid s = paid_ticket s.args.day s.args.game s.args.cents (ticket s)
+      stays : found ≡ false → take (left + 1) (set before left paid) ≡ take left before ++ still_live game (paid ∷ [])
+      stays e = live_stays before left i behind long game paid (not-false _ (found_here ∙ e))
 
-long : (s : At-Start) → s.args.i < length (tickets s)
-long s = omega (arith, tickets_length s.args.rows.now s.args.marks.now, s.requires)
+pub returns-then-closes-clause-stay : goal.returns-then-closes-clause-stay
+returns-then-closes-clause-stay c =
+    let args = c.args in
+    closes args.rows.now args.marks.now args.i args.left c.requires.0 c.requires.1 args.day args.game args.cents
+    c.read_row-row.result c.closes.result c.read_row-row.ensures c.closes.ensures c.if-closes.true
 
--- the row that was read is the ticket's, and so is what it is paid
-abbrev start_of : After-read_row-row → At-Start
-start_of c = c.before.before
-
-abbrev own : At-Start → List ℕ
-own s = marks_at s.args.marks.now s.args.i
-
-row_here : (c : After-read_row-row) → ticket_from c.read_row-row.result (own (start_of c)) ≡ ticket (start_of c)
-row_here c = ap (λ (r : Row). ticket_from r (own (start_of c))) c.read_row-row.ensures
-
-closed-here : (c : After-closes) → c.closes.result ≡ not (is_live (start_of c.before).args.game (paid (start_of c.before)))
-closed-here c =
-    let s = start_of c.before in
-    let args = s.args in
-    c.closes.ensures args.day (own s) ∙ ap (λ t. not (is_live args.game (paid_ticket args.day args.game args.cents t))) (row_here c.before)
-
-abbrev begun : After-move_ticket → At-Start
-begun c = start_of c.before.before.before.before.before
-
--- the ticket at its new place, before it is paid
-here : (c : After-move_ticket) → ticket_in c.move_ticket.new.0 c.move_ticket.new.1.0 (begun c).args.left ≡ ticket (begun c)
-here c =
-    let s = begun c in
-    moved_ticket s.args.rows.now s.args.marks.now c.move_ticket.new.0 c.move_ticket.new.1.0 s.args.i s.args.left s.pre.1 (omega (arith, s.pre)) c.move_ticket.ensures
-
--- and once it is
-stays : (c : After-move_ticket) →
-    let s = begun c in
-    take (s.args.left + 1) (set (tickets s) s.args.left (paid s)) ≡ take s.args.left (tickets s) ++ still_live s.args.game (paid s ∷ [])
-stays c =
-    let s = begun c in
-    live_stays (tickets s) s.args.left s.args.i s.pre.0 (long s) s.args.game (paid s) (not-false _ (sym (closed-here c.before.before.before.before) ∙ c.if-closes.false))
-
-pub returns-then-closes : goal.returns-then-closes
-returns-then-closes c =
-    let s = start_of c.before.before in
-    let args = s.args in (
-      omega arith,
-      (
-        closed_stays (tickets s) args.left args.i s.pre.0 (long s) args.game (paid s) (not-true _ (sym (closed-here c.before) ∙ c.if-closes.true)),
-        refl,
-      ),
-    )
-
--- the row that is read there is the ticket's
-moved_here : (c : After-read_row-moved) →
-    ticket_from c.read_row-moved.result (marks_at c.move_ticket.new.1.0 (begun c.before.before).args.left) ≡ ticket (begun c.before.before)
-moved_here c =
-    ap (λ (r : Row). ticket_from r (marks_at c.move_ticket.new.1.0 (begun c.before.before).args.left)) c.read_row-moved.ensures ∙ here c.before.before
-
-pub returns-then-is_same : goal.returns-then-is_same
-returns-then-is_same c =
-    let s = begun c.before.before.before.before in
-    let args = s.args in
-    let marks = marks_at c.move_ticket.new.1.0 args.left in
-    let same : paid s ≡ ticket s =
-    ap (paid_ticket args.day args.game args.cents) (sym (moved_here c.before.before))
-    ∙ c.is_same.ensures c.if-is_same.true args.day marks
-    ∙ moved_here c.before.before in (
-      omega arith,
-      (
-        ap (take (args.left + 1)) (c.move_ticket.ensures ∙ ap (set (tickets s) args.left) (tickets_at args.rows.now args.marks.now args.i s.pre.1 ∙ sym same))
-            ∙ stays c.before.before.before.before,
-        ap (drop (args.i + 1)) c.move_ticket.ensures
-            ∙ rest_stays (tickets s) args.left args.i s.pre.0 (long s) args.game (get_or (tickets s) args.i blank_ticket),
-      ),
-    )
+pub returns-then-is_same-clause-stay : goal.returns-then-is_same-clause-stay
+returns-then-is_same-clause-stay c =
+    let args = c.args in
+    let words = c.move_ticket.new.rows in
+    let marks = c.move_ticket.new.marks in
+    let own = marks_at marks args.left in
+    let here =
+    moved_here args.rows.now args.marks.now args.i args.left c.requires.0 c.requires.1 words marks c.read_row-moved.result
+    c.move_ticket.ensures c.read_row-moved.ensures in
+    ap (take (args.left + 1))
+    (same_stays args.rows.now args.marks.now args.i args.left c.requires.0 c.requires.1 args.day args.game args.cents words marks
+    (ticket_from c.read_row-moved.result own) c.move_ticket.ensures here (c.is_same.ensures c.if-is_same.true args.day own))
+    ∙ stays args.rows.now args.marks.now args.i args.left c.requires.0 c.requires.1 args.day args.game args.cents
+    c.read_row-row.result c.closes.result c.read_row-row.ensures c.closes.ensures c.if-closes.false
 
 pub paid_row-requires : goal.paid_row-requires
 paid_row-requires c =
-    omega (arith, (begun c.before.before.before.before.before).requires, ap (λ (t : Ticket). t.due) (moved_here c.before.before.before))
+    let args = c.args in
+    let here =
+    moved_here args.rows.now args.marks.now args.i args.left c.requires.0 c.requires.1 c.move_ticket.new.rows c.move_ticket.new.marks
+    c.read_row-moved.result c.move_ticket.ensures c.read_row-moved.ensures in
+    omega (arith, c.requires, ap (λ (t : Ticket). t.due) here)
 
-pub change_ticket-requires : goal.change_ticket-requires
-change_ticket-requires c =
-    record { within = omega (arith, (begun c.before.before.before.before.before.before).requires) }
+-- the tickets at the end: the paid one stands at its new place
+at_end : (c : goal.After-change_ticket) →
+    let args = c.args in
+    tickets_of c.change_ticket.new.rows c.move_ticket.new.marks
+    ≡ set (tickets_of args.rows.now args.marks.now) args.left
+    (paid_ticket args.day args.game args.cents (ticket_in args.rows.now args.marks.now args.i))
+at_end c =
+    let args = c.args in
+    let words = c.move_ticket.new.rows in
+    let marks = c.move_ticket.new.marks in
+    let here =
+    moved_here args.rows.now args.marks.now args.i args.left c.requires.0 c.requires.1 words marks c.read_row-moved.result
+    c.move_ticket.ensures c.read_row-moved.ensures in
+    stored args.rows.now args.marks.now args.i args.left c.requires.0 c.requires.1 words marks c.change_ticket.new.rows c.paid_row.result
+    _ c.move_ticket.ensures (c.change_ticket.ensures marks)
+    (c.paid_row.ensures (marks_at marks args.left) ∙ ap (paid_ticket args.day args.game args.cents) here)
 
-pub overflow_add-result-2 : goal.overflow_add-result-2
-overflow_add-result-2 c =
-    omega (arith, (begun c.before.before.before.before.before.before.before).requires)
+pub returns-clause-stay : goal.returns-clause-stay
+returns-clause-stay c =
+    let args = c.args in
+    ap (take (args.left + 1)) (at_end c)
+    ∙ stays args.rows.now args.marks.now args.i args.left c.requires.0 c.requires.1 args.day args.game args.cents
+    c.read_row-row.result c.closes.result c.read_row-row.ensures c.closes.ensures c.if-closes.false
 
-pub returns : goal.returns
-returns c =
-    let s = begun c.before.before.before.before.before.before.before in
-    let args = s.args in
-    let marks = c.move_ticket.new.1.0 in
-    let own = marks_at marks args.left in
-    let stored =
-    c.change_ticket.ensures marks
-    ∙ ap (λ (ts : List Ticket). set ts args.left (ticket_from c.paid_row.result own)) c.move_ticket.ensures
-    ∙ set-set (tickets s) args.left _ _
-    ∙ ap (set (tickets s) args.left)
-    (c.paid_row.ensures own ∙ ap (paid_ticket args.day args.game args.cents) (moved_here c.before.before.before.before.before)) in (
-      omega arith,
-      (
-        ap (take (args.left + 1)) stored ∙ stays c.before.before.before.before.before.before.before,
-        ap (drop (args.i + 1)) stored ∙ rest_stays (tickets s) args.left args.i s.pre.0 (long s) args.game (paid s),
-      ),
-    )
+pub returns-clause-rest : goal.returns-clause-rest
+returns-clause-rest c =
+    let args = c.args in
+    ap (drop (args.i + 1)) (at_end c)
+    ∙ rest_stays (tickets_of args.rows.now args.marks.now) args.left args.i c.requires.0
+    (long args.rows.now args.marks.now args.i args.left c.requires.0 c.requires.1) args.game _

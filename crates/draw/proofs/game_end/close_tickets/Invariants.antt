@@ -1,14 +1,9 @@
 -- `draw::game_end::close_tickets` meets its contract: the first places hold those that stay of the tickets passed, and the rest are untouched.
-use Prim.Native.Nat.{◌+◌, ◌≤◌, ◌-◌}
-use native.Mathlib.Omega.{arith}
-use mathlib.Core.Path.{◌≡◌, refl, ap, ap₂, ◌∙◌}
-use mathlib.Core.List.{List, [], ◌∷◌, ◌++◌}
-use lib.ListN.{take, drop, get_or}
-use Rattle.house.specs.Tickets.{Ticket}
-use Rattle.house.specs.Commands.{still_live}
-use Rattle.draw.specs.Closing.{paid_ticket}
-use Rattle.house.specs.View.{ticket_in, tickets_of, view}
-use Rattle.draw.proofs.ClosingLaws.{ticket_untouched, rest_untouched, closed_up, closed_none, closed_more, closed_all}
+use Prim.Native.Nat.{◌≤◌, ◌-◌}
+use mathlib.Core.Path.{◌≡◌}
+use lib.ListN.{take, drop}
+use Rattle.house.specs.View.{tickets_of}
+use Rattle.draw.proofs.ClosingLaws.{closed_up}
 use Rattle.draw.proofs.game_end.close_tickets.Given as goal
 
 abbrev pub invariant-loop-i : goal.invariant-loop-i

@@ -2,7 +2,6 @@
 use mathlib.Core.Path.{◌∙◌}
 use Rattle.house.specs.View.{ticket_from}
 use Rattle.draw.proofs.ClosingLaws.{paid_stays, unpaid_alike}
-use borrow.Author.Rules.{rules}
 use Rattle.draw.proofs.game_end.closes.Goals as goal
 
 pub returns-then-cents-ne0 : goal.returns-then-cents-ne0

@@ -3,7 +3,6 @@ use Prim.Native.Nat.{◌+◌}
 use native.Mathlib.Omega.{arith}
 use mathlib.Core.Path.{ap, ◌∙◌}
 use mathlib.Core.List.{List}
-use borrow.Author.Rules.{rules}
 use Rattle.sale.specs.Lists.{below}
 use Rattle.house.specs.Tickets.{Ticket}
 use Rattle.house.specs.Model.{with_tickets}
@@ -18,7 +17,7 @@ returns c = λ figures held.
     let closed = c.close_tickets-left in
     let house = c.args.house in
     let after : House = record { day = house.day; game = house.game + 1; balls = house.balls; drawn = 0; issued = house.issued; live = closed.result; six = house.six; eight = house.eight; counters = house.counters } in
-    let rows = closed.new.1.0 in
-    let marks = closed.new.1.1.0 in
+    let rows = closed.new.rows in
+    let marks = closed.new.marks in
     ap (λ (ts : List Ticket). with_tickets (view after rows marks) ts (view after rows marks).counters)
-    (view_live after rows marks (omega (arith, closed.ensures.0, c.requires.few)) ∙ closed.ensures.1 figures held)
+    (view_live after rows marks (omega (arith, closed.ensures.count, c.requires.few)) ∙ closed.ensures.stay figures held)

@@ -4,7 +4,6 @@ use mathlib.Core.Bool.{false≢true}
 use borrow.Author.Tests.{not-true}
 use Rattle.house.specs.View.{ticket_from}
 use Rattle.draw.proofs.ClosingLaws.{same_finished, same_running}
-use borrow.Author.Rules.{rules}
 use Rattle.draw.proofs.game_end.is_same.Goals as goal
 
 pub returns-then-cents-ne0 : goal.returns-then-cents-ne0

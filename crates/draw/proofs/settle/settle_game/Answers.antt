@@ -5,111 +5,85 @@ use native.Mathlib.Omega.{arith}
 use mathlib.Core.Path.{◌≡◌, sym, ap, ap₂, ◌∙◌, subst}
 use mathlib.Core.List.{List}
 use lib.ListN.{take}
-use borrow.Author.Rules.{rules}
 use Rattle.prizes.specs.declared.draw.Draw.{Draw}
 use Rattle.house.specs.Tickets.{Ticket}
 use Rattle.house.specs.Model.{Model}
 use Rattle.house.specs.declared.state.Counters.{Counters}
+use Rattle.house.specs.declared.state.House.{House}
 use Rattle.house.specs.Commands.{ball, replies, answer_of, settled_by, settlement, game_ended}
 use Rattle.house.specs.View.{view}
-use Rattle.settlement.specs.Settling.{SettledAs}
+use Rattle.settlement.specs.Settling.{spread, SettledAs}
+use Rattle.settlement.specs.declared.settle.Settlement.{Settlement}
 use Rattle.settlement.proofs.GameLaws.{awards_fit}
 use Rattle.house.proofs.ReachedHouses.{Sure, reached_sure}
 use Rattle.house.proofs.ViewLaws.{carried_done, live_count, each_live}
-use Rattle.draw.specs.Closing.{CompletesDraw}
+use Rattle.draw.specs.Closing.{CompletesDraw, CompletedDraw}
 use Rattle.draw.proofs.BallLaws.{last_act, last_draw, Fitting, fitting, settled_reply, settled_view}
 use Rattle.draw.proofs.settle.settle_game.Goals as goal
-use Rattle.draw.proofs.settle.settle_game.Lts
-use Rattle.draw.proofs.settle.settle_game.Reads
-use Rattle.draw.proofs.settle.settle_game.Tie
 
-abbrev At-Start : Type 0
-At-Start = Lts.Start Tie.the-claims Reads.Pre Reads.Post
+module _ (m : Model) (draw : Draw) where
+  fit : (given : CompletedDraw m draw) → Fitting m given.number
+  fit given = fitting m given.number given.reached given.drawn.accepted given.drawn.last
 
-abbrev After-settle-settlement : Type 0
-After-settle-settlement = Lts.After-settle Tie.the-claims Reads.Pre Reads.Post
+  -- the draw is the last ball's
+  room : CompletedDraw m draw → (settled_by draw m).prizes + (settled_by draw m).shares < 2 ^ 62
+  room given = subst (λ (d : Draw). (settled_by d m).prizes + (settled_by d m).shares < 2 ^ 62) (sym given.drawn.draw') (fit given).awards
 
-abbrev After-end_game-ended : Type 0
-After-end_game-ended = Lts.After-end_game Tie.the-claims Reads.Pre Reads.Post
+  -- the settlement, by any ball that completes the draw
+  settled : (awards : List ℕ) (s : Settlement) (b : ℕ) → SettledAs m draw awards s → CompletesDraw m b draw → SettledAs m (last_draw m b) awards s
+  settled awards s b f d = subst (λ (w : Draw). SettledAs m w awards s) d.draw' f
 
-
-abbrev model : At-Start → Model
-model s = view s.args.house s.args.rows.now s.args.marks.now
-
-sure : (s : At-Start) → Sure (model s)
-sure s = reached_sure (model s) s.requires.reached
-
--- the draw is the last ball's
-own-draw : (s : At-Start) → s.args.draw ≡ last_draw (model s) s.requires.number
-own-draw s = s.requires.drawn.draw'
-
-fit : (s : At-Start) → Fitting (model s) s.requires.number
-fit s = fitting (model s) s.requires.number s.requires.reached s.requires.drawn.accepted s.requires.drawn.last
-
-room : (s : At-Start) → (settled_by s.args.draw (model s)).prizes + (settled_by s.args.draw (model s)).shares < 2 ^ 62
-room s = subst (λ (d : Draw). (settled_by d (model s)).prizes + (settled_by d (model s)).shares < 2 ^ 62) (sym (own-draw s)) (fit s).awards
+-- the house that the awards leave
+after_game : (h ended : House) (words marks words' marks' awards : List ℕ) (b : ℕ) (s : Settlement)
+    → SettledAs (view h words marks) (last_draw (view h words marks) b) awards s
+    → ((figures : List ℕ) → take h.live awards ≡ spread h.game figures (view h words marks).live
+    → view ended words' marks' ≡ game_ended figures (view h words marks))
+    → view ended words' marks' ≡ game_ended (settlement b (view h words marks)).awards (view h words marks)
+unfolding settlement view
+after_game h ended words marks words' marks' awards b s f ends =
+    ends (settlement b (view h words marks)).awards (ap (λ n. take n awards) (sym (live_count h words marks)) ∙ f.awards)
 
 pub settle-settlement-requires : goal.settle-settlement-requires
-settle-settlement-requires c = record { reached = c.requires.reached; room = room c.before }
-
--- ---- the settlement
-abbrev start_of : After-settle-settlement → At-Start
-start_of c = c.before.before.before.before
-
-abbrev awards : After-settle-settlement → List ℕ
-awards c = c.settle.new.1.1.1.1.0
-
--- by any ball that completes the draw
-settled-by : (c : After-settle-settlement) (b : ℕ) → CompletesDraw (model (start_of c)) b (start_of c).args.draw
-    → SettledAs (model (start_of c)) (last_draw (model (start_of c)) b) (awards c) c.settle-settlement.result
-settled-by c b d = subst (λ (w : Draw). SettledAs (model (start_of c)) w (awards c) c.settle-settlement.result) d.draw' c.settle-settlement.ensures
-
-settled : (c : After-settle-settlement) → SettledAs (model (start_of c)) (last_draw (model (start_of c)) (start_of c).requires.number) (awards c) c.settle-settlement.result
-settled c = settled-by c (start_of c).requires.number (start_of c).requires.drawn
+settle-settlement-requires c =
+    record { reached = c.requires.reached; room = room (view c.args.house c.args.rows.now c.args.marks.now) c.args.draw c.requires }
 
 pub overflow_add-cents : goal.overflow_add-cents
 overflow_add-cents c =
-    omega (arith, (fit (start_of c.before.before.before.before)).awards, (settled c.before.before.before.before).shares)
+    let m = view c.args.house c.args.rows.now c.args.marks.now in
+    omega (arith, room m c.args.draw c.requires, c.settle-settlement.ensures.shares)
 
 pub overflow_add-cents-2 : goal.overflow_add-cents-2
 overflow_add-cents-2 c =
-    omega (arith, (fit (start_of c.before.before.before.before.before)).awards, (settled c.before.before.before.before.before).shares, (settled c.before.before.before.before.before).prizes)
+    let m = view c.args.house c.args.rows.now c.args.marks.now in
+    omega (arith, room m c.args.draw c.requires, c.settle-settlement.ensures.shares, c.settle-settlement.ensures.prizes)
 
 -- ---- the end of the game
 pub end_game-ended-requires : goal.end_game-ended-requires
 unfolding view
 end_game-ended-requires c =
-    let s = start_of c.before.before.before.before.before.before.before.before in
-    let count = live_count s.args.house s.args.rows.now s.args.marks.now in
-    let dues = each_live s.args.house s.args.rows.now s.args.marks.now (λ (t : Ticket). t.due < 2 ^ 62) (sure s).dues in
+    let args = c.args in
+    let m = view args.house args.rows.now args.marks.now in
+    let sure : Sure m = reached_sure m c.requires.reached in
+    let count = live_count args.house args.rows.now args.marks.now in
+    let dues = each_live args.house args.rows.now args.marks.now (λ (t : Ticket). t.due < 2 ^ 62) sure.dues in
     record {
-      few = omega (arith, (sure s).few, count);
-      game = omega (arith, (sure s).game);
-      room = λ i b. omega (arith, dues i b, awards_fit (model s) s.args.draw (awards c.before.before.before.before.before.before.before.before) (room s) i (omega (arith, count)) c.settle-settlement.ensures.awards);
+      few = omega (arith, sure.few, count);
+      game = omega (arith, sure.game);
+      room = λ i b. omega (arith, dues i b, awards_fit m args.draw c.settle-settlement.new.awards (room m args.draw c.requires) i (omega (arith, count)) c.settle-settlement.ensures.awards);
     }
-
-abbrev foundBefore : After-end_game-ended → After-settle-settlement
-foundBefore c = c.before.before.before.before.before.before.before.before.before
-
--- the house that the awards leave
-ended : (c : After-end_game-ended) (b : ℕ) → CompletesDraw (model (start_of (foundBefore c))) b (start_of (foundBefore c)).args.draw
-    → view c.end_game-ended.result c.end_game-ended.new.1.0 c.end_game-ended.new.1.1.0
-    ≡ game_ended (settlement b (model (start_of (foundBefore c)))).awards (model (start_of (foundBefore c)))
-unfolding settlement view
-ended c b d =
-    let found = foundBefore c in
-    let s = start_of found in
-    c.end_game-ended.ensures (settlement b (model s)).awards
-    (ap (λ n. take n (awards found)) (sym (live_count s.args.house s.args.rows.now s.args.marks.now)) ∙ (settled-by found b d).awards)
 
 pub with_settlement-requires : goal.with_settlement-requires
 unfolding view
 with_settlement-requires c =
-    let found = foundBefore c in
-    let s = start_of found in
-    let f = settled found in
-    let room = fit s in
-    let same = ap (λ (m : Model). m.counters) (ended c s.pre.number s.pre.drawn) in
+    let args = c.args in
+    let m = view args.house args.rows.now args.marks.now in
+    let given = c.requires in
+    let f = settled m args.draw c.settle-settlement.new.awards c.settle-settlement.result given.number c.settle-settlement.ensures given.drawn in
+    let room = fit m args.draw given in
+    let same =
+    ap (λ (k : Model). k.counters)
+    (after_game args.house c.end_game-ended.result args.rows.now args.marks.now c.end_game-ended.new.rows c.end_game-ended.new.marks
+    c.settle-settlement.new.awards given.number c.settle-settlement.result f c.end_game-ended.ensures) in
     record {
       seeds = omega (arith, room.seeds, f.seeds, ap (λ (k : Counters). k.seeds) same);
       gained = omega (arith, room.gained, f.stakes, f.repaid, ap (λ (k : Counters). k.gained) same);
@@ -117,16 +91,19 @@ with_settlement-requires c =
     }
 
 pub returns : goal.returns
-returns c = λ b d.
-    let found = foundBefore c.before.before in
-    let s = start_of found in
-    let args = s.args in
-    let f = settled-by found b d in
-    let last = last_act (model s) b d.last in
-    let rows = c.end_game-ended.new.1.0 in
-    let marks = c.end_game-ended.new.1.1.0 in
+returns c b d =
+    let args = c.args in
+    let m = view args.house args.rows.now args.marks.now in
+    let ended = c.end_game-ended.result in
+    let rows = c.end_game-ended.new.rows in
+    let marks = c.end_game-ended.new.marks in
+    let awards = c.settle-settlement.new.awards in
+    let s = c.settle-settlement.result in
+    let f = settled m args.draw awards s b c.settle-settlement.ensures d in
+    let last = last_act m b d.last in
     carried_done args.house args.rows.now args.marks.now (ball b) _ rows marks _ d.accepted
     (ap (λ h. view h rows marks) (c.accepted.ensures.0 ∙ c.with_settlement.ensures)
-    ∙ settled_view args.house c.end_game-ended.result args.rows.now args.marks.now rows marks b (awards found) found.settle.result f (ended c.before.before b d)
+    ∙ settled_view args.house ended args.rows.now args.marks.now rows marks b awards s f
+    (after_game args.house ended args.rows.now args.marks.now rows marks awards b s f c.end_game-ended.ensures)
     ∙ sym last.0)
-    (c.accepted.ensures.1 ∙ ap answer_of (ap₂ (λ (p q : ℕ). replies 20 (p + q)) f.prizes f.shares ∙ sym (settled_reply (model s) b) ∙ sym last.1))
+    (c.accepted.ensures.1 ∙ ap answer_of (ap₂ (λ (p q : ℕ). replies 20 (p + q)) f.prizes f.shares ∙ sym (settled_reply m b) ∙ sym last.1))

@@ -1,6 +1,5 @@
 -- `draw::settle::with_settlement` meets its contract: every counter has the room that it asks for.
 use native.Mathlib.Omega.{arith}
-use borrow.Author.Rules.{rules}
 use Rattle.draw.proofs.settle.with_settlement.Goals as goal
 
 pub overflow_add-result-4 : goal.overflow_add-result-4
