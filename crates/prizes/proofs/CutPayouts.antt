@@ -1,6 +1,6 @@
 -- What the rule pays: a prize that is not cut is paid as it is, A is above zero where a prize stands outside F, and no prize of the game is
 -- paid more than 5,000,000. A member of ps is a `List.Memᴰ p ps`.
-use mathlib.Core.Path.{◌≡◌, refl, sym, ap, ◌∙◌}
+use mathlib.Core.Path.{◌≡◌, refl, sym, ◌∙◌}
 use mathlib.Core.Bool.{Bool, true, false, cond, false≢true}
 use mathlib.Core.List.{List, Memᴰ}
 use Prim.Native.Nat.{ℕ, suc, ◌+◌, ◌*◌, ◌-◌, ◌/◌, ◌≤◌, ◌<◌}

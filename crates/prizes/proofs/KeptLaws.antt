@@ -10,7 +10,7 @@ use lib.ListN.{length, get_or, take, replicate, get_or-replicate, get_or-eq_defa
 use lib.Seq.{get_or-take}
 use borrow.Author.Tests.{ltb-true, ltb-false, lt-ltb, le-ltb}
 use Rattle.prizes.specs.Schedules.{standard_rows, special_one_rows, special_two_rows, cell}
-use Rattle.prizes.specs.ScheduleTable.{start_in, run_in, low_in, prize_by, WordAt, Keeps, Schedules}
+use Rattle.prizes.specs.ScheduleTable.{start_in, run_in, low_in, prize_by, Keeps, Schedules}
 use Rattle.prizes.proofs.TableLaws.{both, all_below, below_at}
 
 module _ (rows : List (List ℕ)) (s m : ℕ) where

@@ -1,7 +1,6 @@
 -- `rounded_up` computes 20,000 × base / part in two parts, neither of which overflows: the whole part is at most base, since part is 20,000
 -- or more, and the broken part at most 20,000.
 use Prim.Native.Nat.{ℕ, ◌+◌, ◌*◌, ◌-◌, ◌/◌, ◌%◌, ◌≤◌, ◌<◌}
-use borrow.Author.Rules.{rules}
 use native.Mathlib.Nat.{mul_comm, mul-le-mul_right, div-mul-le_self, div-lt_iff_lt-mul, mod-lt, le_trans}
 use native.Mathlib.Omega.{arith}
 use Rattle.prizes.proofs.cut.rounded_up.Goals as goal

@@ -3,7 +3,6 @@ use Prim.Native.Nat.{◌+◌}
 use native.Mathlib.Omega.{arith}
 use lib.ListN.{get_or}
 use lib.Seq.{get_or-set_other}
-use borrow.Author.Rules.{rules}
 use Rattle.prizes.proofs.FoundLaws.{two_stores}
 use Rattle.prizes.proofs.figures.add.Goals as goal
 

@@ -1,5 +1,4 @@
 -- `prizes::figures::store` meets its contract: the prize stands behind those so far, and they are one more.
-use borrow.Author.Rules.{rules}
 use Rattle.prizes.proofs.FoundLaws.{one_stored}
 use Rattle.prizes.proofs.figures.store.Goals as goal
 

@@ -3,20 +3,11 @@ use mathlib.Core.Path.{◌≡◌, sym, ◌∙◌, subst}
 use mathlib.Core.Bool.{true, false}
 use lib.Count.{ones, ones-le}
 use lib.ListN.{length}
-use borrow.Author.Rules.{rules}
-use borrow.Author.Tests.{not-true, not-false}
 use Rattle.sale.specs.Ways.{nominated}
 use Rattle.prizes.specs.Found.{stake_in, types_in, kind_in, Room, way_or_none}
 use Rattle.sale.proofs.WayLaws.{mask_lt}
 use Rattle.prizes.proofs.FoundLaws.{no_ways}
 use Rattle.prizes.proofs.found.find_mask.Goals as goal
-use Rattle.prizes.proofs.found.find_mask.Lts
-use Rattle.prizes.proofs.found.find_mask.Reads
-use Rattle.prizes.proofs.found.find_mask.Tie
-
-abbrev Else-not-nominates : Type 0
-Else-not-nominates = Lts.Else1 Tie.the-claims Reads.Pre Reads.Post
-
 
 pub nominates-requires : goal.nominates-requires
 nominates-requires c = record { few = ones-le 8 _ (mask_lt c.requires.0) }
@@ -28,14 +19,12 @@ returns-then-not-nominates c =
     sym c.nominates.ensures ∙ c.if-not-nominates.true in
     rw none (no_ways (kind_in args.table.now) (stake_in args.table.now) args.found.now args.majors.now)
 
--- the mask is a way
-a-way : (c : Else-not-nominates) → nominated (types_in c.args.table.now) (ones c.args.mask) ≡ true
-a-way c = sym c.nominates.ensures ∙ c.if-not-nominates.false
-
 pub find_way-requires : goal.find_way-requires
 find_way-requires c =
-    (c.requires.1, subst (λ t. Room (length (way_or_none t c.args.pair)) c.args.found.now) (a-way c.before.before.before.before.before) c.requires.2)
+    let a-way : nominated (types_in c.args.table.now) (ones c.args.mask) ≡ true = sym c.nominates.ensures ∙ c.if-not-nominates.false in
+    (c.requires.1, subst (λ t. Room (length (way_or_none t c.args.pair)) c.args.found.now) a-way c.requires.2)
 
 pub returns : goal.returns
 returns c =
-    rw (a-way c.before.before.before.before.before.before, ← c.of-kind.ensures) c.find_way.ensures
+    let a-way : nominated (types_in c.args.table.now) (ones c.args.mask) ≡ true = sym c.nominates.ensures ∙ c.if-not-nominates.false in
+    rw (a-way, ← c.of-kind.ensures) c.find_way.ensures

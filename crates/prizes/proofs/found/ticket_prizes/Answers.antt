@@ -1,6 +1,5 @@
 -- `prizes::found::ticket_prizes` meets its contract: the walk starts with no group taken, and finds what the rule names.
 use mathlib.Core.Path.{sym, subst}
-use borrow.Author.Rules.{rules}
 use Rattle.prizes.specs.Found.{types_in, groups_in, Groups}
 use Rattle.sale.proofs.WayLaws.{start_place}
 use Rattle.prizes.proofs.FoundLaws.{start_carries, start_room, found_with}

@@ -1,6 +1,5 @@
 -- `prizes::groups::table_of` meets its contract: the bytes of both words stand at their places.
 use mathlib.Core.List.{[], ◌∷◌, zip_with}
-use borrow.Author.Rules.{rules}
 use Rattle.prizes.proofs.groups.table_of.Goals as goal
 
 pub returns : goal.returns

@@ -1,8 +1,6 @@
 -- `numbers_in` meets its contract. The loop's invariant: the bytes passed and those that are left make the sum of all; none is above 255.
-use Prim.Native.Nat.{◌-◌}
 use native.Mathlib.Omega.{arith}
-use borrow.Author.Rules.{rules}
-use Rattle.prizes.proofs.LuckyLastLaws.{Passed, passed_none, passed_more, passed_all}
+use Rattle.prizes.proofs.LuckyLastLaws.{passed_none, passed_more, passed_all}
 use Rattle.prizes.proofs.lucky_last.numbers_in.Goals as goal
 
 pub loop-i-init : goal.loop-i-init

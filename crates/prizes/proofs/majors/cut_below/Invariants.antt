@@ -1,10 +1,6 @@
 -- `prizes::majors::cut_below` meets its contract: the figures so far and those of the prizes still ahead are the whole.
-use mathlib.Core.Logic.{⊎_elim}
-use Prim.Native.Nat.{◌-◌, ◌≤◌}
-use native.Mathlib.Omega.{arith}
-use lib.ListN.{length}
-use borrow.Author.Rules.{rules}
-use Rattle.prizes.proofs.MajorLaws.{Counted, counted_none, counted_below, counted_above, counted_all, floored_few, rest_small}
+use Prim.Native.Nat.{◌-◌}
+use Rattle.prizes.proofs.MajorLaws.{Counted}
 use Rattle.prizes.proofs.majors.cut_below.Given as goal
 
 abbrev pub invariant-loop-i : goal.invariant-loop-i

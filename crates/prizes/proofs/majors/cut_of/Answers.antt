@@ -2,7 +2,6 @@
 use mathlib.Core.Path.{sym, subst}
 use native.Mathlib.Omega.{arith}
 use lib.ListN.{take}
-use borrow.Author.Rules.{rules}
 use Rattle.prizes.specs.Rounds.{Pays}
 use Rattle.prizes.specs.declared.cut.Cut.{Cut}
 use Rattle.prizes.proofs.MajorLaws.{uncut_pays}

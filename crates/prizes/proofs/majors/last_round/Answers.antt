@@ -1,23 +1,16 @@
 -- `prizes::majors::last_round` meets its contract: each turn is a round of the rule, on a state that the rule comes to, and floors more or is the
 -- last. The measure is the number of prizes that are not floored.
-use Prim.Native.Nat.{◌-◌, ◌<◌}
+use mathlib.Core.List.{List}
 use mathlib.Core.Path.{◌≡◌, sym, ap, subst, ◌∙◌}
+use Prim.Native.Nat.{ℕ, ◌<◌}
 use native.Mathlib.Omega.{arith}
-use lib.ListN.{length, take}
-use borrow.Author.Rules.{rules}
+use lib.ListN.{take}
 use Rattle.prizes.specs.Cut.{majors_limit}
 use Rattle.prizes.specs.Bounds.{Cuttable}
-use Rattle.prizes.specs.Rounds.{next_below, cut_below, Listed}
+use Rattle.prizes.specs.Rounds.{next_below, cut_below}
 use Rattle.prizes.specs.declared.cut.Cut.{Cut}
 use Rattle.prizes.proofs.MajorLaws.{Follows, first_follows, round_follows, round_grows, last_pays, rest_small, total_small}
 use Rattle.prizes.proofs.majors.last_round.Goals as goal
-use Rattle.prizes.proofs.majors.last_round.Lts
-use Rattle.prizes.proofs.majors.last_round.Reads
-use Rattle.prizes.proofs.majors.last_round.Tie
-
-abbrev After-cut_below-next : Type 0
-After-cut_below-next = Lts.After-cut_below Tie.the-claims Reads.Pre Reads.Post goal.the-invariant-loop-cut goal.the-decreases-loop-cut
-
 
 pub loop-cut-init : goal.loop-cut-init
 loop-cut-init c l =
@@ -34,34 +27,31 @@ pub cut_below-next-requires : goal.cut_below-next-requires
 cut_below-next-requires c = c.requires.0
 
 -- what was found is the next round's state
-round : (c : After-cut_below-next)
-    → c.cut_below-next.result
-    ≡ cut_below (next_below c.loop-cut.cut) (take c.args.count c.args.majors.now)
-round c =
-    let args = c.args in
-    c.cut_below-next.ensures ∙ ap (λ n. cut_below n (take args.count args.majors.now)) c.next_below.ensures
+round : (ps : List ℕ) (cut next : Cut) {bound : ℕ} → next ≡ cut_below bound ps → bound ≡ next_below cut → next ≡ cut_below (next_below cut) ps
+round ps cut next e b = e ∙ ap (λ n. cut_below n ps) b
 
 pub returns-then-next-cut : goal.returns-then-next-cut
 returns-then-next-cut c =
     let turn = c.loop-cut in
     let args = c.args in
-    last_pays args.majors.now args.count c.requires.0 turn.cut (turn.invariant c.requires.0).0 c.cut_below-next.result (round c.before.before.before)
+    let same = round (take args.count args.majors.now) turn.cut c.cut_below-next.result c.cut_below-next.ensures c.next_below.ensures in
+    last_pays args.majors.now args.count c.requires.0 turn.cut (turn.invariant c.requires.0).0 c.cut_below-next.result same
     (subst (λ n. majors_limit < n) c.requires.1.total c.requires.1.past) c.if-next-cut.true
 
 pub loop-cut-smaller : goal.loop-cut-smaller
 loop-cut-smaller c =
     let turn = c.loop-cut in
     let args = c.args in
-    let grows =
-    round_grows args.majors.now args.count c.requires.0 turn.cut (turn.invariant c.requires.0).0 c.cut_below-next.result
-    (round c.before.before.before) c.if-next-cut.false in
+    let same = round (take args.count args.majors.now) turn.cut c.cut_below-next.result c.cut_below-next.ensures c.next_below.ensures in
+    let grows = round_grows args.majors.now args.count c.requires.0 turn.cut (turn.invariant c.requires.0).0 c.cut_below-next.result same c.if-next-cut.false in
     omega (arith, grows.0, grows.1)
 
 pub loop-cut-preserved : goal.loop-cut-preserved
 loop-cut-preserved c l =
     let turn = c.loop-cut in
-    let args = c.args in (
-      round_follows args.majors.now args.count l turn.cut (turn.invariant l).0 c.cut_below-next.result (round c.before.before.before),
-      subst Cuttable (sym (round c.before.before.before))
+    let args = c.args in
+    let same = round (take args.count args.majors.now) turn.cut c.cut_below-next.result c.cut_below-next.ensures c.next_below.ensures in (
+      round_follows args.majors.now args.count l turn.cut (turn.invariant l).0 c.cut_below-next.result same,
+      subst Cuttable (sym same)
           (record { small = omega (arith, rest_small args.majors.now args.count l (next_below turn.cut)) }),
     )

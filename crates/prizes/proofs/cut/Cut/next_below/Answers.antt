@@ -1,7 +1,6 @@
 -- `next_below` is `next_below`: nothing is left to share exactly where 250 or more are floored.
 use mathlib.Core.Path.{◌∙◌}
 use Prim.Native.Nat.{◌≤◌, ◌<◌}
-use borrow.Author.Rules.{rules}
 use borrow.Author.Tests.{le-leb, lt-leb}
 use native.Mathlib.Omega.{arith}
 use Rattle.prizes.specs.Rounds.{next_below}

@@ -1,6 +1,5 @@
 -- `payout` goes by the tests of `pay_under`, one return a case. The product fits: a prize below 2^40, and at most 5,000,000 to share.
 use Prim.Native.Nat.{◌^◌}
-use borrow.Author.Rules.{rules}
 use borrow.Author.Tests.{lt-ltb, le-ltb, le-leb, lt-leb}
 use native.Mathlib.Nat.{mul-le-mul}
 use native.Mathlib.Omega.{arith}

@@ -1,6 +1,5 @@
 -- The pools grow by the definition's own parts of the paid dollars; the sums fit since the pools have room.
 use mathlib.Core.Path.{refl}
-use borrow.Author.Rules.{rules}
 use Rattle.prizes.specs.Jackpots.{contributed}
 use Rattle.prizes.proofs.jackpot.Jackpot.contributed.Goals as goal
 

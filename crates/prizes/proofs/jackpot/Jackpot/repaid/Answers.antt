@@ -1,5 +1,4 @@
 -- The reimbursement pool and the debt lose what is paid, which is at most each of them.
-use borrow.Author.Rules.{rules}
 use Rattle.prizes.specs.Jackpots.{repaid}
 use Rattle.prizes.proofs.jackpot.Jackpot.repaid.Goals as goal
 
