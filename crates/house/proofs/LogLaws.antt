@@ -23,9 +23,9 @@ logged c code = record { command = c; code = code }
 
 -- ---- games in a row
 
-pub and-false : (b : Bool) → (b && false) ≡ false
-and-false true = refl
-and-false false = refl
+pub and_false : (b : Bool) → (b && false) ≡ false
+and_false true = refl
+and_false false = refl
 
 pub games_have : (g a n : ℕ) → member g (games_from a n) ≡ (leb a g && ltb g (a + n))
 unfolding games_from member any
@@ -35,7 +35,7 @@ games_have g a zero = ⊎_elim before after (earlier_or_not g a)
     before h = rw (lt-leb a g h)
 
     after : a ≤ g → false ≡ (leb a g && ltb g (a + 0))
-    after h = rw (le-ltb g (a + 0) (omega arith)) (sym (and-false (leb a g)))
+    after h = rw (le-ltb g (a + 0) (omega arith)) (sym (and_false (leb a g)))
 games_have g a (suc n) = ⊎_elim here (λ other. elsewhere other (games_have g (a + 1) n)) (equal_or_not g a)
   where
     here : g ≡ a → (eqb g a || member g (games_from (a + 1) n)) ≡ (leb a g && ltb g (a + suc n))

@@ -20,7 +20,7 @@ use Rattle.house.proofs.Ledger.{Orderly, house_of, line_of}
 use Rattle.house.proofs.MoneyLaws.{all_from, keep_map, keep_same}
 use Rattle.house.proofs.LiveTickets.{running_live}
 use Rattle.house.proofs.AwardLaws.{playing_lines}
-use Rattle.house.proofs.LogLaws.{and-false, games_have, different_games, span_has, unissued_span}
+use Rattle.house.proofs.LogLaws.{and_false, games_have, different_games, span_has, unissued_span}
 use Rattle.house.proofs.Won.{Told, TicketTold, game_told, issued_told}
 use Rattle.house.proofs.RowLists.{earlier_or_not}
 
@@ -42,7 +42,7 @@ member_kept p n (k ∷ ns) = go (p k) refl (eqb n k) refl (member_kept p n ns)
     go true e false f rest = rw f rest
     go false e true f rest =
         let none : p n ≡ false = ap p (eqb-true n k f) ∙ e in
-        rest ∙ ap (λ b. any (eqb n) ns && b) none ∙ and-false (any (eqb n) ns) ∙ sym none
+        rest ∙ ap (λ b. any (eqb n) ns && b) none ∙ and_false (any (eqb n) ns) ∙ sym none
     go false e false f rest = rest
 
 different_kept : (p : ℕ → Bool) (ns : List ℕ) → Different ns → Different (keep p ns)
@@ -80,7 +80,7 @@ module _ (m : Model) (log : Log) (orderly : Orderly m) (told : Told m log) where
       ap (λ s. member (game_of log) (games_of s)) (unissued_span log n (⊎_elim inl (λ h. inr (omega (arith, issued_told m log told))) never))
       ∙ span_has (game_of log) (record { first = 0; stop = 0 })
       ∙ ap (λ b. leb 0 (game_of log) && b) (le-ltb (game_of log) 0 (omega arith))
-      ∙ and-false (leb 0 (game_of log))
+      ∙ and_false (leb 0 (game_of log))
 
   players_exact : PlaysExactly log players
   players_exact =

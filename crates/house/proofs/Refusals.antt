@@ -29,9 +29,9 @@ pub and_true : (a b : Bool) → (a && b) ≡ true → (a ≡ true) × (b ≡ tru
 and_true true b e = (refl, e)
 and_true false b e = absurd (false≢true e)
 
-pub or-true : (a b : Bool) → (a || b) ≡ true → (a ≡ true) ⊎ (b ≡ true)
-or-true true b e = inl refl
-or-true false b e = inr e
+pub or_true : (a b : Bool) → (a || b) ≡ true → (a ≡ true) ⊎ (b ≡ true)
+or_true true b e = inl refl
+or_true false b e = inr e
 
 -- ---- rows of a refusal table
 
@@ -236,7 +236,7 @@ transfer_accepted m j cents e =
     let some = eqb-false cents 0 amount.0 in
     record {
       opened = eqb-false _ _ p.0;
-      jackpot = six_or_eight j (or-true _ _ (not-false _ p.1.0));
+      jackpot = six_or_eight j (or_true _ _ (not-false _ p.1.0));
       waiting = p.1.1.0;
       some = omega arith;
       covered = ltb-false _ _ amount.1;

@@ -148,15 +148,15 @@ module _ (ps : List ℕ) where
     unfolding outsiders floor_count cut_base
     no_more p m outside =
         let each : (q : ℕ) → Memᴰ q outsiders → base + q * floored ≤ q * 250 =
-        λ q k. let own = member_kept (λ x. not (floored_of ps x)) ps q k in stays_out q own.0 (not-true (floored_of ps q) own.1) in
+        λ q k. let own = member_kept (λ x. not (floored_of ps x)) ps q k in stays_out q own.0 (not_true (floored_of ps q) own.1) in
         let spare = spared floored 250 base outsiders each p (keep_member (λ x. not (floored_of ps x)) ps p m (ap not outside)) in
         let count : floored + length outsiders ≡ length ps = length_keep_split (floored_of ps) ps in
         let all : 250 * base ≤ (length outsiders + floored) * base = mul-le-mul_right base (omega arith) in
         omega (arith, add-mul (length outsiders) floored base, mul_comm floored base, mul_comm 250 base)
       where
-        not-true : (t : Bool) → not t ≡ true → t ≡ false
-        not-true true e = sym e
-        not-true false e = refl
+        not_true : (t : Bool) → not t ≡ true → t ≡ false
+        not_true true e = sym e
+        not_true false e = refl
 
     many_cut : (p : ℕ) → Memᴰ p ps → cut_prize ps p ≡ major_floor
     unfolding cut_prize

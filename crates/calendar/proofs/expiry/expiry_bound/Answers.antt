@@ -21,22 +21,22 @@ moved today finished days h = go (ltb finished (today - days)) refl
     go true e = lt-ltb (finished + days) today (omega (arith, ltb-true))
     go false e = le-ltb (finished + days) today (omega (arith, ltb-false))
 
-by-days :
+by_days :
     (today days bound : ℕ)
     → days ≡ year_before today
     → ((finished : ℕ) → ltb (finished + days) today ≡ ltb finished bound)
     → ExpiryBound today bound
-by-days today days bound e same =
+by_days today days bound e same =
     record { before = λ finished. expired_by_days today finished ∙ ap (λ d. ltb (finished + d) today) (sym e) ∙ same finished }
 
 pub returns-then-today-year : goal.returns-then-today-year
 returns-then-today-year c =
     let today = c.args.today in
     let days = c.year_before-year.result in
-    by-days today days 0 c.year_before-year.ensures (λ finished. young today finished days c.if-today-year.true)
+    by_days today days 0 c.year_before-year.ensures (λ finished. young today finished days c.if-today-year.true)
 
 pub returns : goal.returns
 returns c =
     let today = c.args.today in
     let days = c.year_before-year.result in
-    by-days today days (today - days) c.year_before-year.ensures (λ finished. moved today finished days c.if-today-year.false)
+    by_days today days (today - days) c.year_before-year.ensures (λ finished. moved today finished days c.if-today-year.false)

@@ -11,7 +11,6 @@ use Rattle.house.proofs.ticket.game_price.Reads
 abbrev At-Start : Type 0
 At-Start = Lts.Start Reads.Pre Reads.Post
 
-
 pub returns : goal.returns
 unfolding game_price
 returns c = λ marks.

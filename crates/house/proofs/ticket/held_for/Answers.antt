@@ -15,7 +15,6 @@ Then-row-game = Lts.Then1 Tie.the-claims Reads.Pre Reads.Post
 abbrev Else-row-game : Type 0
 Else-row-game = Lts.Else1 Tie.the-claims Reads.Pre Reads.Post
 
-
 begun : (c : Then-row-game) → max c.args.row.first c.args.game ≡ c.args.game
 begun c = omega (arith, c.if-row-game.true)
 

@@ -24,21 +24,20 @@ After-game_price = Lts.After-game_price Tie.the-claims Reads.Pre Reads.Post
 abbrev After-game_price-2 : Type 0
 After-game_price-2 = Lts.After-game_price2 Tie.the-claims Reads.Pre Reads.Post
 
-
 module _ (from upto : ℕ) (t : Ticket) where
   -- as many games as are paid
-  by-games : (games : ℕ) → games ≡ min upto t.free - min from t.free → ticket_price t * games ≡ paid_stakes from upto t
+  by_games : (games : ℕ) → games ≡ min upto t.free - min from t.free → ticket_price t * games ≡ paid_stakes from upto t
   unfolding paid_stakes charge
-  by-games games e = ap (charge (ticket_price t)) e
+  by_games games e = ap (charge (ticket_price t)) e
 
   none : min upto t.free - min from t.free ≡ 0 → 0 ≡ paid_stakes from upto t
   unfolding paid_stakes
   none e = sym (ap (charge (ticket_price t)) e ∙ charge_none (ticket_price t))
 
   -- the price of a game
-  one-within : 1 ≤ min upto t.free - min from t.free → paid_stakes from upto t ≤ charge_limit → ticket_price t ≤ charge_limit
+  one_within : 1 ≤ min upto t.free - min from t.free → paid_stakes from upto t ≤ charge_limit → ticket_price t ≤ charge_limit
   unfolding paid_stakes charge
-  one-within some within =
+  one_within some within =
       let price = ticket_price t in
       let one : price * 1 ≤ price * (min upto t.free - min from t.free) = mul-le-mul_left price some in
       omega (arith, one, mul-one price, within)
@@ -54,19 +53,19 @@ returns-then-upto-from c = λ marks.
     none args.from args.upto (ticket_from args.row marks) (omega (arith, c.if-upto-from.true))
 
 -- where a game is paid, its price is within the limit
-price-fits : (c : Else-upto-from) → Affordable c.args.row
-price-fits c =
+price_fits : (c : Else-upto-from) → Affordable c.args.row
+price_fits c =
     let args = c.args in
     record {
       within =
-          one-within args.from args.upto (ticket_from args.row [])
+          one_within args.from args.upto (ticket_from args.row [])
           (omega (arith, c.if-upto-from.false, c.if-row-from.false))
           c.requires.within;
     }
 
 -- the games before the first free one
 pub game_price-requires : goal.game_price-requires
-game_price-requires c = price-fits c.before.before
+game_price-requires c = price_fits c.before.before
 
 to_free : (c : After-game_price) (marks : List ℕ) →
     let args = c.args in
@@ -74,7 +73,7 @@ to_free : (c : After-game_price) (marks : List ℕ) →
 to_free c marks =
     let args = c.args in
     ap (λ n. n * (args.row.free - args.from)) (c.game_price.ensures marks)
-    ∙ by-games args.from args.upto (ticket_from args.row marks) (args.row.free - args.from) (omega (arith, c.if-row-from.false, c.if-row-upto.true))
+    ∙ by_games args.from args.upto (ticket_from args.row marks) (args.row.free - args.from) (omega (arith, c.if-row-from.false, c.if-row-upto.true))
 
 pub overflow_mul-result : goal.overflow_mul-result
 overflow_mul-result c =
@@ -85,7 +84,7 @@ returns-then-row-upto c = λ marks. to_free c.before marks
 
 -- all of them
 pub game_price-requires-2 : goal.game_price-requires-2
-game_price-requires-2 c = price-fits c.before.before
+game_price-requires-2 c = price_fits c.before.before
 
 to_end : (c : After-game_price-2) (marks : List ℕ) →
     let args = c.args in
@@ -93,7 +92,7 @@ to_end : (c : After-game_price-2) (marks : List ℕ) →
 to_end c marks =
     let args = c.args in
     ap (λ n. n * (args.upto - args.from)) (c.game_price-2.ensures marks)
-    ∙ by-games args.from args.upto (ticket_from args.row marks) (args.upto - args.from) (omega (arith, c.if-row-from.false, c.if-row-upto.false))
+    ∙ by_games args.from args.upto (ticket_from args.row marks) (args.upto - args.from) (omega (arith, c.if-row-from.false, c.if-row-upto.false))
 
 pub overflow_mul-result-2 : goal.overflow_mul-result-2
 overflow_mul-result-2 c =

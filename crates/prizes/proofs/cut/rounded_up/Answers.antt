@@ -9,8 +9,8 @@ whole_le : (base part : ℕ) → 20000 ≤ part → 20000 * (base / part) ≤ ba
 whole_le base part h =
     le_trans (mul-le-mul_right (base / part) h) (omega (arith, div-mul-le_self base part, mul_comm part (base / part)))
 
-broken-lt : (base part : ℕ) → 0 < part → (20000 * (base % part) + (part - 1)) / part < 20001
-broken-lt base part h = (div-lt_iff_lt-mul h).1 (omega (arith, mod-lt base h))
+broken_lt : (base part : ℕ) → 0 < part → (20000 * (base % part) + (part - 1)) / part < 20001
+broken_lt base part h = (div-lt_iff_lt-mul h).1 (omega (arith, mod-lt base h))
 
 pub overflow_mul-result : goal.overflow_mul-result
 overflow_mul-result c = omega (arith, whole_le c.args.base c.args.part c.requires.least)
@@ -26,5 +26,5 @@ overflow_add-result-2 c =
     omega (
       arith,
       whole_le c.args.base c.args.part c.requires.least,
-      broken-lt c.args.base c.args.part (omega arith),
+      broken_lt c.args.base c.args.part (omega arith),
     )

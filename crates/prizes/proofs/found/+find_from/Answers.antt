@@ -17,14 +17,14 @@ use Rattle.prizes.proofs.FoundLaws.{no_ways, ways_both, room_first, room_second,
 use Rattle.prizes.proofs.found.+find_from.Goals as goal
 
 -- room for the ways is room for what is found of them
-room-pairs : (types left m : ℕ) (table : List ℕ) {found : List ℕ} → Room (length (ways_from types left m)) found
+room_pairs : (types left m : ℕ) (table : List ℕ) {found : List ℕ} → Room (length (ways_from types left m)) found
     → Room (length (pairs_from types table left m)) found
-room-pairs types left m table {found} r =
+room_pairs types left m table {found} r =
     subst (λ n. Room n found) (sym (length-map (ways_from types left m) (λ k. mask_sum k (drop 1 table)))) r
 
-room-ways : (types left m : ℕ) (table : List ℕ) {found : List ℕ} → Room (length (pairs_from types table left m)) found
+room_ways : (types left m : ℕ) (table : List ℕ) {found : List ℕ} → Room (length (pairs_from types table left m)) found
     → Room (length (ways_from types left m)) found
-room-ways types left m table {found} r =
+room_ways types left m table {found} r =
     subst (λ n. Room n found) (length-map (ways_from types left m) (λ k. mask_sum k (drop 1 table))) r
 
 -- where no group is left, the mask is the only way, or there is none
@@ -38,10 +38,10 @@ parts : (types : ℕ) (groups : List ℕ) {left : ℕ} (mask : ℕ) → (left �
     → pairs_from types groups left mask ≡ pairs_from types groups (left - 1) (mask * 2) ++ pairs_from types groups (left - 1) (mask * 2 + 1)
 parts types groups mask some = map_step (λ k. mask_sum k (drop 1 groups)) types mask some
 
-both-room : (types : ℕ) (groups : List ℕ) {left : ℕ} (mask : ℕ) (found : List ℕ) → (left ≡ 0 → ⊥) → Room (length (ways_from types left mask)) found
+both_room : (types : ℕ) (groups : List ℕ) {left : ℕ} (mask : ℕ) (found : List ℕ) → (left ≡ 0 → ⊥) → Room (length (ways_from types left mask)) found
     → Room (length (pairs_from types groups (left - 1) (mask * 2) ++ pairs_from types groups (left - 1) (mask * 2 + 1))) found
-both-room types groups {left} mask found some room =
-    subst (λ (l : List ℕ). Room (length l) found) (parts types groups mask some) (room-pairs types left mask groups room)
+both_room types groups {left} mask found some room =
+    subst (λ (l : List ℕ). Room (length l) found) (parts types groups mask some) (room_pairs types left mask groups room)
 
 pub find_mask-requires : goal.find_mask-requires
 find_mask-requires t c =
@@ -51,7 +51,7 @@ find_mask-requires t c =
       place_end c.if-left-eq0.true c.requires.0,
       c.requires.3,
       subst (λ (l : List ℕ). Room (length l) a.found.now) (own types groups c.if-left-eq0.true c.requires.2)
-          (room-pairs types a.left a.mask groups c.requires.4),
+          (room_pairs types a.left a.mask groups c.requires.4),
     )
 
 pub returns-then-left-eq0 : goal.returns-then-left-eq0
@@ -77,9 +77,9 @@ find_from-requires t c =
         c.requires.1,
         carries_without some c.requires.0.groups c.requires.2,
         c.requires.3,
-        room-ways types (a.left - 1) (a.mask * 2) groups
+        room_ways types (a.left - 1) (a.mask * 2) groups
             (room_first (pairs_from types groups (a.left - 1) (a.mask * 2)) (pairs_from types groups (a.left - 1) (a.mask * 2 + 1))
-            (both-room types groups a.mask a.found.now some c.requires.4)),
+            (both_room types groups a.mask a.found.now some c.requires.4)),
       ),
     )
 
@@ -96,9 +96,9 @@ find_from-requires-2 t c =
         subst (λ n. Carries (a.left - 1) (a.mask * 2 + 1) (a.pair + n) groups) (get_or-drop 3 a.table.now a.left 0)
             (carries_with some c.requires.0.groups c.requires.1 c.requires.2),
         c.requires.3,
-        room-ways types (a.left - 1) (a.mask * 2 + 1) groups
+        room_ways types (a.left - 1) (a.mask * 2 + 1) groups
             (room_second (kind_in a.table.now) (stake_in a.table.now) (pairs_from types groups (a.left - 1) (a.mask * 2))
-            (pairs_from types groups (a.left - 1) (a.mask * 2 + 1)) c.find_from.ensures (both-room types groups a.mask a.found.now some c.requires.4)),
+            (pairs_from types groups (a.left - 1) (a.mask * 2 + 1)) c.find_from.ensures (both_room types groups a.mask a.found.now some c.requires.4)),
       ),
     )
 

@@ -21,10 +21,10 @@ returns-then-not-nominates c =
 
 pub find_way-requires : goal.find_way-requires
 find_way-requires c =
-    let a-way : nominated (types_in c.args.table.now) (ones c.args.mask) ≡ true = sym c.nominates.ensures ∙ c.if-not-nominates.false in
-    (c.requires.1, subst (λ t. Room (length (way_or_none t c.args.pair)) c.args.found.now) a-way c.requires.2)
+    let a_way : nominated (types_in c.args.table.now) (ones c.args.mask) ≡ true = sym c.nominates.ensures ∙ c.if-not-nominates.false in
+    (c.requires.1, subst (λ t. Room (length (way_or_none t c.args.pair)) c.args.found.now) a_way c.requires.2)
 
 pub returns : goal.returns
 returns c =
-    let a-way : nominated (types_in c.args.table.now) (ones c.args.mask) ≡ true = sym c.nominates.ensures ∙ c.if-not-nominates.false in
-    rw (a-way, ← c.of-kind.ensures) c.find_way.ensures
+    let a_way : nominated (types_in c.args.table.now) (ones c.args.mask) ≡ true = sym c.nominates.ensures ∙ c.if-not-nominates.false in
+    rw (a_way, ← c.of-kind.ensures) c.find_way.ensures

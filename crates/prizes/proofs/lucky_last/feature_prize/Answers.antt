@@ -14,13 +14,13 @@ use Rattle.prizes.specs.LuckyLast.{lucky_last_cents, numbers_marked}
 use Rattle.prizes.proofs.LuckyLastLaws.{numbers_of_word, last_missed, last_hit, cents_most}
 use Rattle.prizes.proofs.lucky_last.feature_prize.Goals as goal
 
-product-fits : {cents dollars : ℕ} → cents ≤ 6000 → dollars ≤ 42949672 → cents * dollars < 2 ^ 64
-product-fits few some = omega (arith, mul-le-mul few some)
+product_fits : {cents dollars : ℕ} → cents ≤ 6000 → dollars ≤ 42949672 → cents * dollars < 2 ^ 64
+product_fits few some = omega (arith, mul-le-mul few some)
 
 -- the cents for the numbers of the word are those for the numbers marked
-cents-by : (marks : List ℕ) (word : ℕ) {cents numbers : ℕ} → KeptSizes word marks → cents ≡ lucky_last_cents numbers
+cents_by : (marks : List ℕ) (word : ℕ) {cents numbers : ℕ} → KeptSizes word marks → cents ≡ lucky_last_cents numbers
     → numbers ≡ sum (word_bytes 8 word) → cents ≡ lucky_last_cents (numbers_marked marks)
-cents-by marks word kept e n = e ∙ ap lucky_last_cents (n ∙ numbers_of_word marks kept)
+cents_by marks word kept e n = e ∙ ap lucky_last_cents (n ∙ numbers_of_word marks kept)
 
 pub returns-then-mark_of-eq0 : goal.returns-then-mark_of-eq0
 returns-then-mark_of-eq0 c =
@@ -30,13 +30,13 @@ returns-then-mark_of-eq0 c =
 
 pub overflow_mul-result : goal.overflow_mul-result
 overflow_mul-result c =
-    let e = cents-by c.args.marks.now c.args.word c.requires c.cents_for.ensures c.numbers_in.ensures in
+    let e = cents_by c.args.marks.now c.args.word c.requires c.cents_for.ensures c.numbers_in.ensures in
     let few : c.cents_for.result ≤ 6000 = omega (arith, e, cents_most (numbers_marked c.args.marks.now)) in
-    record { fits = product-fits few (omega arith) }
+    record { fits = product_fits few (omega arith) }
 
 pub returns : goal.returns
 returns c =
-    ap (λ n. n * (c.args.stake / 100)) (cents-by c.args.marks.now c.args.word c.requires c.cents_for.ensures c.numbers_in.ensures)
+    ap (λ n. n * (c.args.stake / 100)) (cents_by c.args.marks.now c.args.word c.requires c.cents_for.ensures c.numbers_in.ensures)
     ∙ sym
     (last_hit c.args.draw c.args.marks.now c.args.stake
     (ap (λ m. not (eqb m 0)) (sym c.mark_of.ensures) ∙ ap not (ne_eqb _ 0 c.if-mark_of-eq0.false)))

@@ -11,7 +11,6 @@ use Rattle.house.specs.View.{row_at}
 use Rattle.queries.proofs.ListingLaws.{number_at, listed_to, listed_none, listed_more}
 use Rattle.queries.proofs.live_list.write_numbers.Goals as goal
 
-
 pub loop-left-init : goal.loop-left-init
 loop-left-init c = (omega arith, refl, listed_none (number_at c.args.rows.now) c.args.out.now)
 

@@ -12,15 +12,14 @@ use Rattle.queries.proofs.till.held_of.Tie
 abbrev After-held_for-held : Type 0
 After-held_for-held = Lts.After-held_for Tie.the-claims Reads.Pre Reads.Post goal.the-invariant-loop-i goal.the-decreases-loop-i
 
-
 pub loop-i-init : goal.loop-i-init
 loop-i-init c = (omega arith, rows_few c.args.house c.args.rows.now c.requires, sym (total_none (held_at c.args.house.game c.args.rows.now)))
 
 -- what is held for the row's ticket
-row-held : (c : After-held_for-held) →
+row_held : (c : After-held_for-held) →
     let args = c.args in
     c.held_for-held.result ≡ held_at args.house.game args.rows.now c.loop-i.i
-row-held c =
+row_held c =
     let args = c.args in
     held_of_row args.house.game args.rows.now c.loop-i.i c.read_row-row.result c.read_row-row.ensures c.held_for-held.result c.held_for-held.ensures
 
@@ -34,12 +33,12 @@ overflow_add-held c =
     let turn = c.loop-i in
     let rows = c.args.rows.now in
     let more = held_fits house rows c.requires (turn.i + 1) (omega (arith, c.loop-i-test.true)) in
-    omega (arith, more, total_more (held_at house.game rows) turn.i, row-held c, turn.invariant.2)
+    omega (arith, more, total_more (held_at house.game rows) turn.i, row_held c, turn.invariant.2)
 
 pub loop-i-preserved : goal.loop-i-preserved
 loop-i-preserved c =
     let args = c.args in
-    (omega arith, omega arith, omega (arith, total_more (held_at args.house.game args.rows.now) c.loop-i.i, row-held c, c.loop-i.invariant.2))
+    (omega arith, omega arith, omega (arith, total_more (held_at args.house.game args.rows.now) c.loop-i.i, row_held c, c.loop-i.invariant.2))
 
 pub returns : goal.returns
 returns c = λ marks.

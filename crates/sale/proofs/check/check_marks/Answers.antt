@@ -17,14 +17,14 @@ module _ (o : Operands) where
   abbrev Past : ℕ → Type 0
   Past k = first_met (mark_rows o) ≡ first_met (drop k (mark_rows o))
 
-  past-1 : o.kind ≤ 3 → Past 1
-  past-1 kind = row_passed _ 7 _ (ap not (le-leb _ _ kind))
+  past_1 : o.kind ≤ 3 → Past 1
+  past_1 kind = row_passed _ 7 _ (ap not (le-leb _ _ kind))
 
-  past-2 : o.kind ≤ 3 → (leb 1 o.games && leb o.games 100) ≡ true → Past 2
-  past-2 kind games = past-1 kind ∙ row_passed _ 8 _ (ap not games)
+  past_2 : o.kind ≤ 3 → (leb 1 o.games && leb o.games 100) ≡ true → Past 2
+  past_2 kind games = past_1 kind ∙ row_passed _ 8 _ (ap not games)
 
-  past-3 : o.kind ≤ 3 → (leb 1 o.games && leb o.games 100) ≡ true → (leb 1 o.groups && leb o.groups 8) ≡ true → Past 3
-  past-3 kind games groups = past-2 kind games ∙ row_passed _ 9 _ (ap not groups)
+  past_3 : o.kind ≤ 3 → (leb 1 o.games && leb o.games 100) ≡ true → (leb 1 o.groups && leb o.groups 8) ≡ true → Past 3
+  past_3 kind games groups = past_2 kind games ∙ row_passed _ 9 _ (ap not groups)
 
 pub returns-then-sale-gt3 : goal.returns-then-sale-gt3
 returns-then-sale-gt3 c =
@@ -34,7 +34,7 @@ pub returns-then-not-between : goal.returns-then-not-between
 returns-then-not-between c =
     let o = operands_of c.args.sale c.args.marks.now in
     record {
-      code = sym (past-1 o c.if-sale-gt3.false ∙ row_met _ 8 _ (ap not (sym c.between.ensures ∙ c.if-not-between.true)));
+      code = sym (past_1 o c.if-sale-gt3.false ∙ row_met _ 8 _ (ap not (sym c.between.ensures ∙ c.if-not-between.true)));
       passed = λ none. absurd (omega arith);
     }
 
@@ -43,7 +43,7 @@ returns-then-not-between-2 c =
     let o = operands_of c.args.sale c.args.marks.now in
     record {
       code =
-          sym (past-2 o c.if-sale-gt3.false (sym c.between.ensures ∙ c.if-not-between.false)
+          sym (past_2 o c.if-sale-gt3.false (sym c.between.ensures ∙ c.if-not-between.false)
           ∙ row_met _ 9 _ (ap not (sym c.between-2.ensures ∙ c.if-not-between-2.true)));
       passed = λ none. absurd (omega arith);
     }
@@ -53,7 +53,7 @@ returns-then-marks-ne80 c =
     let o = operands_of c.args.sale c.args.marks.now in
     record {
       code =
-          sym (past-3 o c.if-sale-gt3.false (sym c.between.ensures ∙ c.if-not-between.false) (sym c.between-2.ensures ∙ c.if-not-between-2.false)
+          sym (past_3 o c.if-sale-gt3.false (sym c.between.ensures ∙ c.if-not-between.false) (sym c.between-2.ensures ∙ c.if-not-between-2.false)
           ∙ row_met _ 10 _ (ap not (marks_few o.groups o.marks c.if-marks-ne80.true)));
       passed = λ none. absurd (omega arith);
     }
@@ -66,7 +66,7 @@ returns-then-not-groups_fit c =
     let o = operands_of c.args.sale c.args.marks.now in
     record {
       code =
-          sym (past-3 o c.if-sale-gt3.false (sym c.between.ensures ∙ c.if-not-between.false) (sym c.between-2.ensures ∙ c.if-not-between-2.false)
+          sym (past_3 o c.if-sale-gt3.false (sym c.between.ensures ∙ c.if-not-between.false) (sym c.between-2.ensures ∙ c.if-not-between-2.false)
           ∙ row_met _ 10 _
           (ap not
           (sym (c.groups_fit.ensures ∙ marks_by_groups o.groups o.marks c.if-marks-ne80.false c.group_sizes-sizes.ensures) ∙ c.if-not-groups_fit.true)));
@@ -79,7 +79,7 @@ returns c =
     let o = operands_of c.args.sale c.args.marks.now in
     record {
       code =
-          sym (past-3 o c.if-sale-gt3.false (sym c.between.ensures ∙ c.if-not-between.false) (sym c.between-2.ensures ∙ c.if-not-between-2.false)
+          sym (past_3 o c.if-sale-gt3.false (sym c.between.ensures ∙ c.if-not-between.false) (sym c.between-2.ensures ∙ c.if-not-between-2.false)
           ∙ row_passed _ 10 []
           (ap not
           (sym (c.groups_fit.ensures ∙ marks_by_groups o.groups o.marks c.if-marks-ne80.false c.group_sizes-sizes.ensures) ∙ c.if-not-groups_fit.false)));

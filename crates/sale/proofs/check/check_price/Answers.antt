@@ -42,11 +42,11 @@ abbrev Else-code-ne0-3 : Type 0
 Else-code-ne0-3 = Lts.Else3 Tie.the-claims Reads.Pre Reads.Post
 
 -- the rows below each
-abbrev belowFeature : Operands → List (Bool × ℕ)
-belowFeature o = stake_row o ∷ feature_stake_row o ∷ charge_row o ∷ []
+abbrev below_feature : Operands → List (Bool × ℕ)
+below_feature o = stake_row o ∷ feature_stake_row o ∷ charge_row o ∷ []
 
-abbrev belowStake : Operands → List (Bool × ℕ)
-belowStake o = feature_stake_row o ∷ charge_row o ∷ []
+abbrev below_stake : Operands → List (Bool × ℕ)
+below_stake o = feature_stake_row o ∷ charge_row o ∷ []
 
 -- a refusal, whatever stands beside its number
 refused : (o : Operands) (r : PriceCheck) → r.code ≡ first_met (price_rows o) → (r.code ≡ 0 → ⊥) → PriceChecked o r
@@ -70,46 +70,46 @@ charged c marks count =
     (ap₂ (game_price (begun c).args.sale.stake) count c.stake.ensures)
     c.paid_games-paid.ensures
 
-feature-told : (c : After-feature_code-code) (marks : List ℕ) → Counts (begun c.before) marks
+feature_told : (c : After-feature_code-code) (marks : List ℕ) → Counts (begun c.before) marks
     → c.feature_code-code.result ≡ first_met (feature_row (operands (begun c.before) marks) ∷ [])
-feature-told c marks count = c.feature_code-code.ensures (operands (begun c.before) marks) refl refl count
+feature_told c marks count = c.feature_code-code.ensures (operands (begun c.before) marks) refl refl count
 
-past-feature : (c : Else-code-ne0) (marks : List ℕ) → Counts (begun c.before.before) marks
-    → let o = operands (begun c.before.before) marks in first_met (price_rows o) ≡ first_met (belowFeature o)
+past_feature : (c : Else-code-ne0) (marks : List ℕ) → Counts (begun c.before.before) marks
+    → let o = operands (begun c.before.before) marks in first_met (price_rows o) ≡ first_met (below_feature o)
 unfolding every
-past-feature c marks count =
+past_feature c marks count =
     let o = operands (begun c.before.before) marks in
-    stage_passed (feature_row o ∷ []) (belowFeature o) refl (feature-told c.before marks count) c.if-code-ne0.false
+    stage_passed (feature_row o ∷ []) (below_feature o) refl (feature_told c.before marks count) c.if-code-ne0.false
 
-abbrev atStake : After-stake_code-code → At-Start
-atStake c = begun c.before.before.before
+abbrev at_stake : After-stake_code-code → At-Start
+at_stake c = begun c.before.before.before
 
-stake-told : (c : After-stake_code-code) (marks : List ℕ) → (atStake c).args.kind ≡ kind_of (atStake c).args.sale.kind → Counts (atStake c) marks
-    → c.stake_code-code.result ≡ first_met (stake_row (operands (atStake c) marks) ∷ [])
-stake-told c marks kind count = c.stake_code-code.ensures (operands (atStake c) marks) kind count refl
+stake_told : (c : After-stake_code-code) (marks : List ℕ) → (at_stake c).args.kind ≡ kind_of (at_stake c).args.sale.kind → Counts (at_stake c) marks
+    → c.stake_code-code.result ≡ first_met (stake_row (operands (at_stake c) marks) ∷ [])
+stake_told c marks kind count = c.stake_code-code.ensures (operands (at_stake c) marks) kind count refl
 
-past-stake : (c : Else-code-ne0-2) (marks : List ℕ) → let s = atStake c.before in s.args.kind ≡ kind_of s.args.sale.kind → Counts s marks
-    → let o = operands s marks in first_met (price_rows o) ≡ first_met (belowStake o)
+past_stake : (c : Else-code-ne0-2) (marks : List ℕ) → let s = at_stake c.before in s.args.kind ≡ kind_of s.args.sale.kind → Counts s marks
+    → let o = operands s marks in first_met (price_rows o) ≡ first_met (below_stake o)
 unfolding every
-past-stake c marks kind count =
-    let o = operands (atStake c.before) marks in
-    past-feature c.before.before marks count
-    ∙ stage_passed (stake_row o ∷ []) (belowStake o) refl (stake-told c.before marks kind count) c.if-code-ne0-2.false
+past_stake c marks kind count =
+    let o = operands (at_stake c.before) marks in
+    past_feature c.before.before marks count
+    ∙ stage_passed (stake_row o ∷ []) (below_stake o) refl (stake_told c.before marks kind count) c.if-code-ne0-2.false
 
-abbrev atFeatureStake : After-feature_stake_code-code → At-Start
-atFeatureStake c = atStake c.before.before
+abbrev at_feature_stake : After-feature_stake_code-code → At-Start
+at_feature_stake c = at_stake c.before.before
 
-feature-stake-told : (c : After-feature_stake_code-code) (marks : List ℕ)
-    → c.feature_stake_code-code.result ≡ first_met (feature_stake_row (operands (atFeatureStake c) marks) ∷ [])
-feature-stake-told c marks = c.feature_stake_code-code.ensures (operands (atFeatureStake c) marks) refl
+feature_stake_told : (c : After-feature_stake_code-code) (marks : List ℕ)
+    → c.feature_stake_code-code.result ≡ first_met (feature_stake_row (operands (at_feature_stake c) marks) ∷ [])
+feature_stake_told c marks = c.feature_stake_code-code.ensures (operands (at_feature_stake c) marks) refl
 
-past-feature-stake : (c : Else-code-ne0-3) (marks : List ℕ) → let s = atFeatureStake c.before in s.args.kind ≡ kind_of s.args.sale.kind → Counts s marks
+past_feature_stake : (c : Else-code-ne0-3) (marks : List ℕ) → let s = at_feature_stake c.before in s.args.kind ≡ kind_of s.args.sale.kind → Counts s marks
     → let o = operands s marks in first_met (price_rows o) ≡ first_met (charge_row o ∷ [])
 unfolding every
-past-feature-stake c marks kind count =
-    let o = operands (atFeatureStake c.before) marks in
-    past-stake c.before.before marks kind count
-    ∙ stage_passed (feature_stake_row o ∷ []) (charge_row o ∷ []) refl (feature-stake-told c.before marks) c.if-code-ne0-3.false
+past_feature_stake c marks kind count =
+    let o = operands (at_feature_stake c.before) marks in
+    past_stake c.before.before marks kind count
+    ∙ stage_passed (feature_stake_row o ∷ []) (charge_row o ∷ []) refl (feature_stake_told c.before marks) c.if-code-ne0-3.false
 
 pub charge_of-charge-requires : goal.charge_of-charge-requires
 charge_of-charge-requires c = c.requires
@@ -119,40 +119,40 @@ unfolding every
 returns-then-code-ne0 c = λ marks kind count.
     let o = operands (begun c.before.before) marks in
     refused o _
-    (sym (stage_refused (feature_row o ∷ []) (belowFeature o) refl (feature-told c.before marks count) c.if-code-ne0.true))
+    (sym (stage_refused (feature_row o ∷ []) (below_feature o) refl (feature_told c.before marks count) c.if-code-ne0.true))
     c.if-code-ne0.true
 
 pub returns-then-code-ne0-2 : goal.returns-then-code-ne0-2
 unfolding every
 returns-then-code-ne0-2 c = λ marks kind count.
-    let o = operands (atStake c.before) marks in
+    let o = operands (at_stake c.before) marks in
     refused o _
     (sym
-    (past-feature c.before.before marks count
-    ∙ stage_refused (stake_row o ∷ []) (belowStake o) refl (stake-told c.before marks kind count) c.if-code-ne0-2.true))
+    (past_feature c.before.before marks count
+    ∙ stage_refused (stake_row o ∷ []) (below_stake o) refl (stake_told c.before marks kind count) c.if-code-ne0-2.true))
     c.if-code-ne0-2.true
 
 pub returns-then-code-ne0-3 : goal.returns-then-code-ne0-3
 unfolding every
 returns-then-code-ne0-3 c = λ marks kind count.
-    let o = operands (atFeatureStake c.before) marks in
+    let o = operands (at_feature_stake c.before) marks in
     refused o _
     (sym
-    (past-stake c.before.before marks kind count
-    ∙ stage_refused (feature_stake_row o ∷ []) (charge_row o ∷ []) refl (feature-stake-told c.before marks) c.if-code-ne0-3.true))
+    (past_stake c.before.before marks kind count
+    ∙ stage_refused (feature_stake_row o ∷ []) (charge_row o ∷ []) refl (feature_stake_told c.before marks) c.if-code-ne0-3.true))
     c.if-code-ne0-3.true
 
 pub returns : goal.returns
 returns c = λ marks kind count.
     let o = operands (begun c.before.before.before.before.before.before.before) marks in
-    let charged-code = c.charge_code-code.ensures o (charged c.before.before.before.before.before.before.before marks count) in
+    let charged_code = c.charge_code-code.ensures o (charged c.before.before.before.before.before.before.before marks count) in
     record {
-      code = charged-code ∙ sym (past-feature-stake c.before marks kind count);
+      code = charged_code ∙ sym (past_feature_stake c.before marks kind count);
       passed =
           λ none.
           record {
             paid = c.paid_games-paid.ensures;
             charge = charged c.before.before.before.before.before.before.before marks count;
-            within = ltb-false _ _ (row_clear _ 15 (omega arith) (sym charged-code ∙ none));
+            within = ltb-false _ _ (row_clear _ 15 (omega arith) (sym charged_code ∙ none));
           };
     }

@@ -20,26 +20,26 @@ use Rattle.sale.proofs.check.check_ways.Goals as goal
 
 -- the operands of a sale whose marks have the sizes given, and what was seen of their ways
 module _ (o : Operands) where
-  past-1 : {fit : Bool} → fit ≡ not (eqb o.types 0 || leb (2 ^ o.groups) o.types) → fit ≡ true
+  past_1 : {fit : Bool} → fit ≡ not (eqb o.types 0 || leb (2 ^ o.groups) o.types) → fit ≡ true
       → first_met (way_rows o) ≡ first_met (drop 1 (way_rows o))
-  past-1 test fits = row_passed _ 11 _ (not-true _ (sym test ∙ fits))
+  past_1 test fits = row_passed _ 11 _ (not-true _ (sym test ∙ fits))
 
-  past-2 : {fit : Bool} → fit ≡ sizes_fit (kind_of o.kind) (way_sizes o.groups o.types (sizes o.marks)) → fit ≡ true
+  past_2 : {fit : Bool} → fit ≡ sizes_fit (kind_of o.kind) (way_sizes o.groups o.types (sizes o.marks)) → fit ≡ true
       → first_met (drop 1 (way_rows o)) ≡ first_met (drop 2 (way_rows o))
-  past-2 test fits = row_passed _ 12 _ (ap not (sym test ∙ fits))
+  past_2 test fits = row_passed _ 12 _ (ap not (sym test ∙ fits))
 
   module _ {counts : List ℕ} {kind : Kind} {seen : Survey} (given : MarksPassed o counts) (same : kind ≡ kind_of o.kind) (survey : seen ≡ survey_of (way_sizes o.groups o.types counts)) where
     looked : LookedAt o kind seen
     looked = record { kind = same; survey = survey ∙ ap (λ (l : List ℕ). survey_of (way_sizes o.groups o.types l)) given.same }
 
-    sizes-test : {fit : Bool} → ((l : List ℕ) → seen ≡ survey_of l → fit ≡ sizes_fit kind l)
+    sizes_test : {fit : Bool} → ((l : List ℕ) → seen ≡ survey_of l → fit ≡ sizes_fit kind l)
         → fit ≡ sizes_fit (kind_of o.kind) (way_sizes o.groups o.types (sizes o.marks))
-    sizes-test test =
+    sizes_test test =
         test (way_sizes o.groups o.types (sizes o.marks)) looked.survey
         ∙ ap (λ k. sizes_fit k (way_sizes o.groups o.types (sizes o.marks))) same
 
-    lone-test : {lone : Bool} → lone ≡ (is_special_one kind && eqb seen.count 1) → lone ≡ (is_special_one (kind_of o.kind) && eqb (way_count o) 1)
-    lone-test test =
+    lone_test : {lone : Bool} → lone ≡ (is_special_one kind && eqb seen.count 1) → lone ≡ (is_special_one (kind_of o.kind) && eqb (way_count o) 1)
+    lone_test test =
         test
         ∙ ap₂ (λ k n. is_special_one k && eqb n 1) same
         (ap (λ (v : Survey). v.count) looked.survey ∙ surveyed_count o.groups o.types (sizes o.marks))
@@ -56,8 +56,8 @@ returns-then-not-suits c = λ marks given kind.
     let o = operands_of c.args.sale marks in
     record {
       code =
-          sym (past-1 o c.types_fit.ensures c.if-not-types_fit.false
-          ∙ row_met _ 12 _ (ap not (sym (sizes-test o given kind c.survey_ways-survey.ensures c.suits.ensures) ∙ c.if-not-suits.true)));
+          sym (past_1 o c.types_fit.ensures c.if-not-types_fit.false
+          ∙ row_met _ 12 _ (ap not (sym (sizes_test o given kind c.survey_ways-survey.ensures c.suits.ensures) ∙ c.if-not-suits.true)));
       passed = λ none. absurd (omega arith);
     }
 
@@ -66,9 +66,9 @@ returns-then-lone_special c = λ marks given kind.
     let o = operands_of c.args.sale marks in
     record {
       code =
-          sym (past-1 o c.types_fit.ensures c.if-not-types_fit.false
-          ∙ past-2 o (sizes-test o given kind c.survey_ways-survey.ensures c.suits.ensures) c.if-not-suits.false
-          ∙ row_met _ 13 _ (sym (lone-test o given kind c.survey_ways-survey.ensures c.lone_special.ensures) ∙ c.if-lone_special.true));
+          sym (past_1 o c.types_fit.ensures c.if-not-types_fit.false
+          ∙ past_2 o (sizes_test o given kind c.survey_ways-survey.ensures c.suits.ensures) c.if-not-suits.false
+          ∙ row_met _ 13 _ (sym (lone_test o given kind c.survey_ways-survey.ensures c.lone_special.ensures) ∙ c.if-lone_special.true));
       passed = λ none. absurd (omega arith);
     }
 
@@ -78,8 +78,8 @@ returns c = λ marks given kind.
     let o = operands_of c.args.sale marks in
     record {
       code =
-          sym (past-1 o c.types_fit.ensures c.if-not-types_fit.false
-          ∙ past-2 o (sizes-test o given kind c.survey_ways-survey.ensures c.suits.ensures) c.if-not-suits.false
-          ∙ row_passed _ 13 [] (sym (lone-test o given kind c.survey_ways-survey.ensures c.lone_special.ensures) ∙ c.if-lone_special.false));
+          sym (past_1 o c.types_fit.ensures c.if-not-types_fit.false
+          ∙ past_2 o (sizes_test o given kind c.survey_ways-survey.ensures c.suits.ensures) c.if-not-suits.false
+          ∙ row_passed _ 13 [] (sym (lone_test o given kind c.survey_ways-survey.ensures c.lone_special.ensures) ∙ c.if-lone_special.false));
       passed = λ none. looked o given kind c.survey_ways-survey.ensures;
     }

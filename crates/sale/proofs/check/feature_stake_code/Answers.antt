@@ -28,8 +28,8 @@ none wrong e = rw e
 nothing_staked : {entered : Bool} {stake : ℕ} → entered ≡ true → stake ≡ 0 → entered && (eqb stake 0 || not (eqb (stake % 100) 0)) ≡ true
 nothing_staked {stake = stake} e zero = rw (e, eq-eqb stake 0 zero)
 
-by-hundreds : {entered : Bool} {stake : ℕ} {odd : Bool} → entered ≡ true → (stake ≡ 0 → ⊥) → not (eqb (stake % 100) 0) ≡ odd → entered && (eqb stake 0 || not (eqb (stake % 100) 0)) ≡ odd
-by-hundreds {stake = stake} e some told = rw (e, ne_eqb stake 0 some) told
+by_hundreds : {entered : Bool} {stake : ℕ} {odd : Bool} → entered ≡ true → (stake ≡ 0 → ⊥) → not (eqb (stake % 100) 0) ≡ odd → entered && (eqb stake 0 || not (eqb (stake % 100) 0)) ≡ odd
+by_hundreds {stake = stake} e some told = rw (e, ne_eqb stake 0 some) told
 
 entered_by : (c : After-is_entered) {told : Bool} → c.is_entered.result ≡ told → (o : Operands) → c.args.feature ≡ o.feature → has_feature o.feature ≡ told
 entered_by c is o same = sym (c.is_entered.ensures ∙ ap has_feature same) ∙ is
@@ -53,12 +53,12 @@ unfolding first_met
 returns-then-stake-eq0-2 c = λ o feature.
     sym
     (row_passed _ 32 []
-    (by-hundreds (entered_at c.before.before.before o feature) (λ zero. c.if-stake-eq0.false (staked c.before.before o feature ∙ zero))
+    (by_hundreds (entered_at c.before.before.before o feature) (λ zero. c.if-stake-eq0.false (staked c.before.before o feature ∙ zero))
     (ap (λ n. not (eqb (n % 100) 0)) (sym (staked c.before.before o feature)) ∙ ap not (eq-eqb _ 0 c.if-stake-eq0-2.true))))
 
 pub returns-else-stake-eq0-2 : goal.returns-else-stake-eq0-2
 returns-else-stake-eq0-2 c = λ o feature.
     sym
     (row_met _ 32 _
-    (by-hundreds (entered_at c.before.before.before o feature) (λ zero. c.if-stake-eq0.false (staked c.before.before o feature ∙ zero))
+    (by_hundreds (entered_at c.before.before.before o feature) (λ zero. c.if-stake-eq0.false (staked c.before.before o feature ∙ zero))
     (ap (λ n. not (eqb (n % 100) 0)) (sym (staked c.before.before o feature)) ∙ ap not (ne_eqb _ 0 c.if-stake-eq0-2.false))))

@@ -21,26 +21,26 @@ use Rattle.sale.proofs.check.quote_for.Goals as goal
 
 module _ (o : Operands) where
   -- the rows below the marks'
-  abbrev belowMarks : List (Bool × ℕ)
-  belowMarks = way_rows o ++ price_rows o
+  abbrev below_marks : List (Bool × ℕ)
+  below_marks = way_rows o ++ price_rows o
 
   module _ {r : MarksCheck} (marks : MarksChecked o r) where
-    refused-marks : (r.code ≡ 0 → ⊥) → operand_code o ≡ r.code
+    refused_marks : (r.code ≡ 0 → ⊥) → operand_code o ≡ r.code
     unfolding operand_code operand_rows every
-    refused-marks some = stage_refused (mark_rows o) belowMarks refl marks.code some
+    refused_marks some = stage_refused (mark_rows o) below_marks refl marks.code some
 
-    past-marks : r.code ≡ 0 → operand_code o ≡ first_met belowMarks
+    past_marks : r.code ≡ 0 → operand_code o ≡ first_met below_marks
     unfolding operand_code operand_rows every
-    past-marks none = stage_passed (mark_rows o) belowMarks refl marks.code none
+    past_marks none = stage_passed (mark_rows o) below_marks refl marks.code none
 
     module _ (marked : r.code ≡ 0) {k : Kind} {w : WaysCheck} (ways : WaysChecked o k w) where
-      refused-ways : (w.code ≡ 0 → ⊥) → operand_code o ≡ w.code
+      refused_ways : (w.code ≡ 0 → ⊥) → operand_code o ≡ w.code
       unfolding every
-      refused-ways some = past-marks marked ∙ stage_refused (way_rows o) (price_rows o) refl ways.code some
+      refused_ways some = past_marks marked ∙ stage_refused (way_rows o) (price_rows o) refl ways.code some
 
-      past-ways : w.code ≡ 0 → operand_code o ≡ first_met (price_rows o)
+      past_ways : w.code ≡ 0 → operand_code o ≡ first_met (price_rows o)
       unfolding every
-      past-ways none = past-marks marked ∙ stage_passed (way_rows o) (price_rows o) refl ways.code none
+      past_ways none = past_marks marked ∙ stage_passed (way_rows o) (price_rows o) refl ways.code none
 
   counted : {k : Kind} {seen : Survey} → LookedAt o k seen → seen.count ≡ way_count o
   counted looked = ap (λ (v : Survey). v.count) looked.survey ∙ surveyed_count o.groups o.types (sizes o.marks)
@@ -48,7 +48,7 @@ module _ (o : Operands) where
 pub returns-then-code-ne0 : goal.returns-then-code-ne0
 returns-then-code-ne0 c =
     let o = operands_of c.args.sale c.args.marks.now in
-    c.refused.ensures ∙ refusal o (refused-marks o c.check_marks-marked.ensures c.if-code-ne0.true) c.if-code-ne0.true
+    c.refused.ensures ∙ refusal o (refused_marks o c.check_marks-marked.ensures c.if-code-ne0.true) c.if-code-ne0.true
 
 pub check_ways-looked-requires : goal.check_ways-looked-requires
 check_ways-looked-requires c =
@@ -62,7 +62,7 @@ returns-then-code-ne0-2 c =
     let marked = c.check_marks-marked.ensures.passed c.if-code-ne0.false in
     let checked = c.check_ways-looked.ensures marks marked c.of-kind.ensures in
     c.refused-then-code-ne0-2.ensures
-    ∙ refusal o (refused-ways o c.check_marks-marked.ensures c.if-code-ne0.false checked c.if-code-ne0-2.true) c.if-code-ne0-2.true
+    ∙ refusal o (refused_ways o c.check_marks-marked.ensures c.if-code-ne0.false checked c.if-code-ne0-2.true) c.if-code-ne0-2.true
 
 pub check_price-price-requires : goal.check_price-price-requires
 check_price-price-requires c =
@@ -82,7 +82,7 @@ returns-then-code-ne0-3 c =
     let priced = c.check_price-price.ensures marks looked.kind (counted o looked) in
     c.refused-then-code-ne0-3.ensures
     ∙ refusal o
-    (past-ways o c.check_marks-marked.ensures c.if-code-ne0.false checked c.if-code-ne0-2.false ∙ sym priced.code)
+    (past_ways o c.check_marks-marked.ensures c.if-code-ne0.false checked c.if-code-ne0-2.false ∙ sym priced.code)
     c.if-code-ne0-3.true
 
 pub overflow_cast-result : goal.overflow_cast-result
@@ -119,4 +119,4 @@ returns c =
       sizes = (c.size_word.ensures ∙ ap size_word marked.same) i;
     })
     ∙ acceptance o
-    (past-ways o c.check_marks-marked.ensures c.if-code-ne0.false checked c.if-code-ne0-2.false ∙ sym priced.code ∙ c.if-code-ne0-3.false)
+    (past_ways o c.check_marks-marked.ensures c.if-code-ne0.false checked c.if-code-ne0-2.false ∙ sym priced.code ∙ c.if-code-ne0-3.false)

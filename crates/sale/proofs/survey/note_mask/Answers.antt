@@ -26,14 +26,14 @@ returns-then-not-nominates c =
     rw none
 
 -- the mask is a way
-a-way : (c : Else-not-nominates) → nominated c.args.types (ones c.args.mask) ≡ true
-a-way c = sym c.nominates.ensures ∙ c.if-not-nominates.false
+a_way : (c : Else-not-nominates) → nominated c.args.types (ones c.args.mask) ≡ true
+a_way c = sym c.nominates.ensures ∙ c.if-not-nominates.false
 
 pub note_way-requires : goal.note_way-requires
 note_way-requires c =
     let args = c.args in
-    subst (λ t. Unfilled (cond t (args.size ∷ []) []) args.table.now) (a-way c.before) c.requires.1
+    subst (λ t. Unfilled (cond t (args.size ∷ []) []) args.table.now) (a_way c.before) c.requires.1
 
 pub returns : goal.returns
 unfolding survey_from
-returns c = rw (a-way c.before.before) c.note_way.ensures
+returns c = rw (a_way c.before.before) c.note_way.ensures
