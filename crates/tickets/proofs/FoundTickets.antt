@@ -1,17 +1,19 @@
--- The ticket that Cancel and Claim find: its place among the live ones and its row, what the rest of the command's table then says, and the
--- live tickets once it is changed or closed.
+-- The ticket that Cancel and Claim find: what the table's first rows say of its number, its place among the live ones and its row, what the rest
+-- of the command's table then says, and the live tickets once it is changed or closed.
 use Prim.Native.Nat.{ℕ, ◌≤◌, ◌<◌}
 use native.Mathlib.Omega.{arith}
 use mathlib.Core.Path.{◌≡◌, refl, sym, ap, ◌∙◌, ap₂, subst, subst⁻¹}
-use mathlib.Core.Bool.{Bool, true, false, cond}
+use mathlib.Core.Bool.{Bool, true, false, cond, not, ◌||◌}
 use mathlib.Core.List.{List, [], ◌∷◌, ◌++◌}
+use lib.Dec.{eqb, ltb}
 use lib.ListN.{length, take, set}
-use borrow.Author.Tests.{ltb-true, not-false}
+use borrow.Author.Tests.{ltb-true, not-false, eq-eqb, ne_eqb, lt-ltb, le-ltb}
 use Rattle.sale.specs.Checks.{first_met}
 use Rattle.house.specs.Tickets.{Ticket, is_live}
-use Rattle.house.specs.Commands.{blank_ticket, ticket_at, changed, still_live, lookup_rows}
+use Rattle.house.specs.Commands.{blank_ticket, ticket_at, has_ticket, changed, still_live, lookup_rows}
 use Rattle.house.specs.Balance.{Reached}
-use Rattle.house.specs.View.{marks_at, ticket_from, ticket_in, tickets_of, place_of, without, view}
+use Rattle.house.specs.View.{marks_at, ticket_from, ticket_in, tickets_of, place_of, RisingRows, without, view}
+use Rattle.house.specs.Parts.{ComesWith}
 use Rattle.tickets.specs.Steps.{replaced}
 use Rattle.tickets.specs.declared.lookup.Lookup.{Lookup}
 use Rattle.house.specs.declared.state.House.{House}
@@ -21,7 +23,7 @@ use Rattle.house.proofs.Refusals.{row_passed, all_passed}
 use Rattle.house.proofs.RowLaws.{place_ticket}
 use Rattle.house.proofs.RisingNumbers.{all_at, changed_stays, changed_closes}
 use Rattle.house.proofs.ReachedHouses.{Sure, reached_sure}
-use Rattle.house.proofs.ViewLaws.{live_count, view_few, view_live, view_has, view_ticket}
+use Rattle.house.proofs.ViewLaws.{live_count, view_few, view_live, view_has, view_rising, view_ticket}
 
 -- ---- two tables one below the other
 
@@ -48,6 +50,56 @@ first_met_below [] more numbered none = refl
 first_met_below (row ∷ rows) more numbered none =
     let passed = row_passed row.0 row.1 (first_met rows) numbered.0 none in
     rw passed.0 (first_met_below rows more numbered.1 passed.1)
+
+-- ---- the table's first rows, by the number's place among the rows
+
+-- a house that comes from a fresh one by commands has its rows in the order of their numbers
+pub rising_rows : (h : House) (words : List ℕ) → ComesWith h words → RisingRows words h.live
+rising_rows h words comes = view_rising h words comes.marks (reached_sure _ comes.reached)
+
+-- the rows by their tests
+abbrev tested : Bool → Bool → Bool → ℕ
+tested closed unknown gone = cond closed 4 (cond unknown 18 (cond gone 19 0))
+
+module _ (h : House) (words marks : List ℕ) (n : ℕ) where
+  by_tests :
+      (closed unknown gone : Bool)
+      → eqb h.day 0 ≡ closed
+      → (eqb n 0 || ltb h.issued n) ≡ unknown
+      → not (has_ticket n (view h words marks).live) ≡ gone
+      → tested closed unknown gone ≡ first_met (lookup_rows n (view h words marks))
+  unfolding first_met view
+  by_tests closed unknown gone p q r = rw (← p, ← q, ← r)
+
+  -- the place among the live tickets is that among the first rows of the buffer
+  pub row_place : ComesWith h words → place_of n (view h words marks).live ≡ place_of n (take h.live (tickets_of words marks))
+  row_place comes = ap (place_of n) (view_live h words marks (rising_rows h words comes).few)
+
+  pub look_up_closed : h.day ≡ 0 → 4 ≡ first_met (lookup_rows n (view h words marks))
+  look_up_closed none = by_tests true _ _ (eq-eqb h.day 0 none) refl refl
+
+  module _ (opened : h.day ≡ 0 → ⊥) where
+    pub look_up_zero : n ≡ 0 → 18 ≡ first_met (lookup_rows n (view h words marks))
+    look_up_zero none = by_tests false true _ (ne_eqb h.day 0 opened) (rw (eq-eqb n 0 none)) refl
+
+    module _ (some : n ≡ 0 → ⊥) where
+      pub look_up_unissued : h.issued < n → 18 ≡ first_met (lookup_rows n (view h words marks))
+      look_up_unissued past = by_tests false true _ (ne_eqb h.day 0 opened) (rw (ne_eqb n 0 some) (lt-ltb h.issued n past)) refl
+
+      module _ (comes : ComesWith h words) (issued : n ≤ h.issued) where
+        by_place :
+            (here : Bool)
+            → ltb (place_of n (take h.live (tickets_of words marks))) h.live ≡ here
+            → tested false false (not here) ≡ first_met (lookup_rows n (view h words marks))
+        by_place here e =
+            by_tests false false (not here) (ne_eqb h.day 0 opened) (rw (ne_eqb n 0 some) (le-ltb h.issued n issued))
+            (ap not (view_has h words marks n ∙ ap (λ p. ltb p h.live) (row_place comes) ∙ e))
+
+        pub look_up_gone : h.live ≤ place_of n (take h.live (tickets_of words marks)) → 19 ≡ first_met (lookup_rows n (view h words marks))
+        look_up_gone past = by_place false (le-ltb _ _ past)
+
+        pub look_up_live : place_of n (take h.live (tickets_of words marks)) < h.live → 0 ≡ first_met (lookup_rows n (view h words marks))
+        look_up_live within = by_place true (lt-ltb _ _ within)
 
 -- ---- the ticket
 

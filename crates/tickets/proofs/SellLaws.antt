@@ -24,7 +24,7 @@ use Rattle.house.proofs.Ledger.{with_live}
 use Rattle.house.proofs.ListLaws.{cond_either}
 use Rattle.house.proofs.Refusals.{or_false, operands_accepted, sale_rows}
 use Rattle.house.proofs.RowLaws.{feature_kept}
-use Rattle.house.proofs.ViewLaws.{view_live, view_by}
+use Rattle.house.proofs.ViewLaws.{live_count, view_live, view_by}
 
 -- ---- the code of a sale
 
@@ -65,6 +65,32 @@ module _ (m : Model) (o : Operands) where
           sale_fits ends =
               sale_room
               ∙ rw (lt-leb live_limit (length m.live) room, lt-leb ticket_limit m.issued numbered, le-ltb (game_limit + 1) (next_game m + o.games) ends)
+
+-- ---- the same of the struct, in the words that the code tests
+
+module _ (h : House) (words marks : List ℕ) (o : Operands) (opened : h.day ≡ 0 → ⊥) where
+  pub sold_unfit : (operand_code o ≡ 0 → ⊥) → operand_code o ≡ code_of (view h words marks) (sell o)
+  unfolding view
+  sold_unfit unfit = sym (sale_unfit (view h words marks) o opened unfit)
+
+  module _ (fits : operand_code o ≡ 0) where
+    pub sold_out : live_limit ≤ h.live → 16 ≡ code_of (view h words marks) (sell o)
+    unfolding view
+    sold_out full = sym (sale_full (view h words marks) o opened fits (omega (arith, live_count h words marks)))
+
+    module _ (room : h.live < live_limit) where
+      pub sold_last_number : ticket_limit ≤ h.issued → 17 ≡ code_of (view h words marks) (sell o)
+      unfolding view
+      sold_last_number full = sym (sale_last_number (view h words marks) o opened fits (omega (arith, live_count h words marks)) full)
+
+      module _ (numbered : h.issued < ticket_limit) where
+        pub sold_last_game : game_limit + 1 < next_game (view h words marks) + o.games → 17 ≡ code_of (view h words marks) (sell o)
+        unfolding view
+        sold_last_game past = sym (sale_last_game (view h words marks) o opened fits (omega (arith, live_count h words marks)) numbered past)
+
+        pub sold_fits : next_game (view h words marks) + o.games ≤ game_limit + 1 → 0 ≡ code_of (view h words marks) (sell o)
+        unfolding view
+        sold_fits ends = sym (sale_fits (view h words marks) o opened fits (omega (arith, live_count h words marks)) numbered ends)
 
 -- ---- the quote
 

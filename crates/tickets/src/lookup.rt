@@ -24,6 +24,7 @@ pub struct Lookup {
 }
 
 // The first refusal of the table that holds of a number, or the place of its live ticket.
+#[tactic(auto, using(crate::proofs::FoundTickets::row_place, crate::proofs::FoundTickets::look_up_closed, crate::proofs::FoundTickets::look_up_zero, crate::proofs::FoundTickets::look_up_unissued, crate::proofs::FoundTickets::look_up_gone, crate::proofs::FoundTickets::look_up_live))]
 fn find_place(house: House, rows: &[u64; 3200], ticket: u32) -> Place
     requires { ComesWith house rows.now }
     ensures code { (marks : List ℕ) → result.code ≡ first_met (lookup_rows ticket (view house rows.now marks)) }

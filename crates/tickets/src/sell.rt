@@ -15,6 +15,7 @@ use sale::check::{Quote, quote_for};
 use sale::terms::Sale;
 
 // The refusal's number on an open day, or 0, where `quoted` is that of the operands alone.
+#[tactic(auto, using(crate::proofs::SellLaws::sold_unfit, crate::proofs::SellLaws::sold_out, crate::proofs::SellLaws::sold_last_number, crate::proofs::SellLaws::sold_last_game, crate::proofs::SellLaws::sold_fits))]
 fn sale_code(house: House, games: u8, quoted: u8) -> u8
     requires { InGames house × (house.day ≡ 0 → ⊥) }
     ensures { (words marks : List ℕ) (o : Operands) → o.games ≡ games → operand_code o ≡ quoted → result ≡ code_of (view house words marks) (sell o) }
