@@ -1,6 +1,6 @@
 -- Laws of the command Ball: the balls in as a list, what the command does before and at the twentieth, and the room that a settled game leaves
 -- in every figure, since the house after it is reached too.
-use Prim.Native.Nat.{ℕ, zero, suc, ◌+◌, ◌<◌, ◌^◌}
+use Prim.Native.Nat.{ℕ, zero, suc, ◌+◌, ◌≤◌, ◌<◌, ◌^◌}
 use mathlib.Core.Path.{◌≡◌, refl, sym, ap, ap₂, ◌∙◌, subst}
 use mathlib.Core.Bool.{true, false}
 use mathlib.Core.Logic.{⊎_elim}
@@ -146,6 +146,18 @@ whole_draw found balls drawn twenty nineteen e =
     ∙ sym (table_of found 20 (omega arith))
     ∙ ap (λ n. map (λ i. get_or found i 0) (below n)) last
     ∙ e)
+
+-- a reached house has nineteen balls in at the most
+pub balls_few : (m : Model) → Reached m → length m.balls ≤ 19
+balls_few m reached = (reached_sure m reached).balls
+
+-- and where there are nineteen, twenty with the ball are the draw that it completes
+pub twenty_drawn : (h : House) (words marks found : List ℕ) (b : ℕ)
+    → length found ≡ 20
+    → h.drawn ≡ 19
+    → map (λ i. get_or found i 0) (below (h.drawn + 1)) ≡ balls_with b (view h words marks)
+    → draw_of found ≡ draw_of (balls_with b (view h words marks))
+twenty_drawn h words marks found b twenty nineteen e = whole_draw found (balls_with b (view h words marks)) h.drawn twenty nineteen e
 
 -- what the twentieth ball answers, by the draw that it completes
 pub settled_reply : (m : Model) (b : ℕ)

@@ -79,6 +79,7 @@ fn add_ball(house: House, number: u8) -> Outcome
 
 // The outcome of an accepted ball takes the place of a refusal's. With a return for each, the balls would be copied from either of two places, and
 // the compiler would keep the whole house in memory from command to command.
+#[tactic(auto, using(house::proofs::ViewLaws::balls_count, crate::proofs::BallLaws::balls_few, crate::proofs::BallLaws::twenty_drawn))]
 pub fn enter_ball(
     house: House,
     rows: &mut [u64; 3200],

@@ -37,7 +37,7 @@ use Rattle.house.specs.Tickets.{Ticket, runs_in, terms_of}
 use Rattle.house.specs.Commands.{blank_ticket}
 use Rattle.house.specs.Balance.{Reached}
 use Rattle.house.specs.View.{view, ticket_from, ticket_in}
-use Rattle.settlement.specs.Settling.{spread, PaidOut, prizes_at, matches_at}
+use Rattle.settlement.specs.Settling.{spread, PaidOut, prizes_at, matches_at, payouts_in, full_in}
 use Rattle.settlement.specs.Passing.{live_in, prizes_below, sure_cents, all_majors, Sold, SoldAll, Narrow, FoundAt, FoundAll, Cutting, Raised}
 use Rattle.house.specs.declared.state.House.{House}
 use Rattle.house.specs.declared.rows.Row.{Row}
@@ -434,6 +434,45 @@ nothing_spread h words marks figures none =
 pub nothing_taken : (h : House) (words marks table : List ℕ) → h.live ≡ 0 → take (length (view h words marks).live) table ≡ []
 nothing_taken h words marks table none = ap (λ n. take n table) (live_count h words marks ∙ none)
 
+-- ---- what the ways are paid, by place and by ticket
+
+module _ (h : House) (words marks : List ℕ) (draw : Draw) where
+  abbrev placed : List (List ℕ)
+  placed = prizes_below words marks h.game draw h.live
+
+  pub placed_count : length (prizes_below words marks h.game draw h.live) ≡ h.live
+  placed_count = length_table (λ k. prizes_at h.game draw (ticket_in words marks k)) h.live
+
+  -- what the rule pays
+  rule_spread :
+      map (λ ps. sum (map (payout (all_majors placed)) ps)) placed
+      ≡ spread (view h words marks).game (payouts_in (view h words marks).game draw (view h words marks).live) (view h words marks).live
+  unfolding view
+  rule_spread =
+      let same : placed ≡ map (prizes_at h.game draw) (live_in words marks h.live) =
+      sym (map-map (prizes_at h.game draw) (ticket_in words marks) (below h.live)) in
+      ap (λ (l : List (List ℕ)). map (λ ps. sum (map (payout (all_majors l)) ps)) l) same
+      ∙ paid_spread h.game draw (live_in words marks h.live)
+
+  -- which is what is sure where 250 are major or more
+  pub sure_spread : 250 ≤ length (all_majors (prizes_below words marks h.game draw h.live))
+      → spread (view h words marks).game (payouts_in (view h words marks).game draw (view h words marks).live) (view h words marks).live
+      ≡ map sure_cents (prizes_below words marks h.game draw h.live)
+  sure_spread many = sym (table_same sure_cents (λ ps. sum (map (payout (all_majors placed)) ps)) placed each ∙ rule_spread)
+    where
+      each : (i : ℕ) → i < length placed → sure_cents (get_or placed i []) ≡ sum (map (payout (all_majors placed)) (get_or placed i []))
+      each i inside =
+          sym
+          (paid_sure (all_majors placed) (get_or placed i [])
+          (λ p m. payout_many (all_majors placed) (majors_large placed) many p (own_major placed i p inside m)))
+
+  -- the full matches
+  pub full_spread :
+      spread (view h words marks).game (full_in (view h words marks).game draw (view h words marks).live) (view h words marks).live
+      ≡ map (matches_at h.game draw) (live_in words marks h.live)
+  unfolding view
+  full_spread = sym (matches_spread h.game draw (live_in words marks h.live))
+
 -- ---- the parts together
 
 module _ (h : House) (words marks : List ℕ) (draw : Draw) (sold : SoldAll words marks h.live) {sure full ends majors : List ℕ} {count : ℕ}
@@ -443,9 +482,6 @@ module _ (h : House) (words marks : List ℕ) (draw : Draw) (sold : SoldAll word
 
   abbrev prize_at : ℕ → List ℕ
   prize_at k = prizes_at h.game draw (ticket_in words marks k)
-
-  pub found_count : length (prizes_below words marks h.game draw h.live) ≡ h.live
-  found_count = length_table prize_at h.live
 
   long : length majors ≡ 250
   long = ap length f.listed ∙ length-sets (replicate 250 0) 0 (all_majors found) ∙ length-replicate {A = ℕ} 250 0
@@ -460,17 +496,7 @@ module _ (h : House) (words marks : List ℕ) (draw : Draw) (sold : SoldAll word
   ways_le i (yes inside) =
       subst (λ (l : List ℕ). length l ≤ 255) (sym (get_or_table prize_at h.live i [] inside))
       (prizes_few h.game draw (ticket_in words marks i) (sold.each i inside).playable)
-  ways_le i (no past) = rw (get_or-eq_default found [] {n = i} (omega (arith, found_count))) (omega arith)
-
-  -- 250 major prizes or more are paid what is sure
-  pub many_paid : 250 ≤ count → Raised (prizes_below words marks h.game draw h.live) sure
-  many_paid many = f.tables.cents ∙ table_same sure_cents (λ ps. sum (map (payout (all_majors found)) ps)) found each
-    where
-      each : (i : ℕ) → i < length found → sure_cents (get_or found i []) ≡ sum (map (payout (all_majors found)) (get_or found i []))
-      each i inside =
-          sym
-          (paid_sure (all_majors found) (get_or found i [])
-          (λ p m. payout_many (all_majors found) (majors_large found) (omega (arith, f.together)) p (own_major found i p inside m)))
+  ways_le i (no past) = rw (get_or-eq_default found [] {n = i} (omega (arith, placed_count h words marks draw))) (omega arith)
 
   module _ (few : count < 250) where
     abbrev others : List ℕ
@@ -495,7 +521,7 @@ module _ (h : House) (words marks : List ℕ) (draw : Draw) (sold : SoldAll word
         → Cutting (prizes_below words marks h.game draw h.live) sure ends majors c
     found_cutting {c} pays =
         record {
-          few = omega (arith, found_count, sold.few);
+          few = omega (arith, placed_count h words marks draw, sold.few);
           ways = λ i. ways_le i (dec_lt i h.live);
           tables = f.tables;
           long = long;
@@ -507,15 +533,9 @@ module _ (h : House) (words marks : List ℕ) (draw : Draw) (sold : SoldAll word
 
   -- what the rule pays the ways
   pub raised_paid : {paid : List ℕ} → Raised (prizes_below words marks h.game draw h.live) paid → PaidOut (view h words marks) draw paid full
-  unfolding view
   raised_paid {paid} r =
-      let live : length (live_in words marks h.live) ≡ h.live = length_table (ticket_in words marks) h.live in
-      let same : found ≡ map (prizes_at h.game draw) (live_in words marks h.live) =
-      sym (map-map (prizes_at h.game draw) (ticket_in words marks) (below h.live)) in
+      let live : length (view h words marks).live ≡ h.live = live_count h words marks in
       record {
-        payouts =
-            ap (λ n. take n paid) (live ∙ sym found_count) ∙ r
-            ∙ ap (λ (l : List (List ℕ)). map (λ ps. sum (map (payout (all_majors l)) ps)) l) same
-            ∙ paid_spread h.game draw (live_in words marks h.live);
-        matches = ap (λ n. take n full) live ∙ f.matches ∙ matches_spread h.game draw (live_in words marks h.live);
+        payouts = ap (λ n. take n paid) (live ∙ sym (placed_count h words marks draw)) ∙ r ∙ rule_spread h words marks draw;
+        matches = ap (λ n. take n full) live ∙ f.matches ∙ sym (full_spread h words marks draw);
       }

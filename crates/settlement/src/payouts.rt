@@ -132,7 +132,7 @@ fn raise_all(live: usize, ends: &[u64; 200], majors: &[u64; 250], cut: Cut, paid
 }
 
 // Fills the first places of `paid` and `full`, one for each live ticket. Where there is none, no table is made.
-#[tactic(auto, using(crate::proofs::PassSteps::nothing_spread, crate::proofs::PassSteps::nothing_taken))]
+#[tactic(auto, using(house::proofs::ViewLaws::live_count, crate::proofs::PassSteps::nothing_spread, crate::proofs::PassSteps::nothing_taken, crate::proofs::PassSteps::sure_spread, crate::proofs::PassSteps::full_spread, crate::proofs::PassSteps::placed_count))]
 pub(crate) fn find_payouts(
     house: House,
     rows: &[u64; 3200],

@@ -12,10 +12,10 @@ pub returns : goal.returns
 returns c = λ words marks coded.
     let house = c.args.house in
     let number = c.args.number in
-    let in-now = balls_count house words marks in
-    let early = early_act (view house words marks) number (λ e. omega (arith, c.requires, in-now)) in
+    let in_now = balls_count house words marks in
+    let early = early_act (view house words marks) number (λ e. omega (arith, c.requires, in_now)) in
     carried_done house words marks (ball number) _ words marks _ coded
     (ap (λ h. view h words marks) c.accepted.ensures.0
     ∙ entered_view house words marks number c.balls_with-balls.result (c.balls_with-balls.ensures.balls words marks)
     ∙ sym early.0)
-    (c.accepted.ensures.1 ∙ ap (λ n. answer_of (replies (n + 1) 0)) (sym in-now) ∙ ap answer_of (sym early.1))
+    (c.accepted.ensures.1 ∙ ap (λ n. answer_of (replies (n + 1) 0)) (sym in_now) ∙ ap answer_of (sym early.1))

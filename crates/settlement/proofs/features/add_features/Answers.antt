@@ -19,8 +19,8 @@ pub loop-i-init : goal.loop-i-init
 unfolding below
 loop-i-init c = (omega arith, sym (joined_none c.args.paid.now))
 
-length-features : (rows marks : List ℕ) (game : ℕ) (draw : Draw) (i : ℕ) → length (features rows marks game draw i) ≡ i
-length-features rows marks game draw i = length_table (feature rows marks game draw) i
+length_features : (rows marks : List ℕ) (game : ℕ) (draw : Draw) (i : ℕ) → length (features rows marks game draw i) ≡ i
+length_features rows marks game draw i = length_table (feature rows marks game draw) i
 
 pub loop-i-preserved : goal.loop-i-preserved
 loop-i-preserved c =
@@ -28,7 +28,7 @@ loop-i-preserved c =
     let turn = c.loop-i in
     let here = features args.rows.now args.marks.now args.game args.draw turn.i in (
       omega (arith, c.loop-i-test.true),
-      joined_step args.paid.now here turn.invariant.1 (length-features args.rows.now args.marks.now args.game args.draw turn.i) c.feature_at.result
+      joined_step args.paid.now here turn.invariant.1 (length_features args.rows.now args.marks.now args.game args.draw turn.i) c.feature_at.result
           ∙ ap (λ cents. joined_to args.paid.now (here ++ (cents ∷ []))) c.feature_at.ensures
           ∙ ap (joined_to args.paid.now) (sym (table_more (feature args.rows.now args.marks.now args.game args.draw) turn.i)),
     )
@@ -42,7 +42,7 @@ overflow_add-paid c =
       arith,
       c.feature_at.ensures,
       feature_at_within args.game args.draw (ticket_in args.rows.now args.marks.now turn.i) (c.requires.sold.each turn.i c.loop-i-test.true).playable,
-      joined_place args.paid.now (features args.rows.now args.marks.now args.game args.draw turn.i) turn.invariant.1 (length-features args.rows.now args.marks.now args.game args.draw turn.i),
+      joined_place args.paid.now (features args.rows.now args.marks.now args.game args.draw turn.i) turn.invariant.1 (length_features args.rows.now args.marks.now args.game args.draw turn.i),
       c.requires.room turn.i c.loop-i-test.true,
     )
 
@@ -53,7 +53,7 @@ returns c =
     let done : turn.i ≡ args.live = omega (arith, turn.invariant.0, c.loop-i-test.false) in
     joined_whole args.paid.now (features args.rows.now args.marks.now args.game args.draw args.live)
     (turn.invariant.1 ∙ ap (λ n. joined_to args.paid.now (features args.rows.now args.marks.now args.game args.draw n)) done)
-    (length-features args.rows.now args.marks.now args.game args.draw args.live)
+    (length_features args.rows.now args.marks.now args.game args.draw args.live)
     ∙ ap (zip_with ◌+◌ (take args.live args.paid.now)) (sym (map-map (feature_at args.game args.draw) (ticket_in args.rows.now args.marks.now) (below args.live)))
 
 pub feature_at-requires : goal.feature_at-requires

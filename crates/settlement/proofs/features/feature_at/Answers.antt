@@ -15,8 +15,8 @@ use Rattle.settlement.proofs.FeatureLaws.{feature_narrow, kept_sizes, feature_re
 use Rattle.settlement.proofs.features.feature_at.Goals as goal
 
 -- the row that was read is the ticket's
-row-sold : (w v : Row) (own : List ℕ) → w ≡ v → Sold (ticket_from v own) → Sold (ticket_from w own)
-row-sold w v own read sold = subst (λ (r : Row). Sold (ticket_from r own)) (sym read) sold
+row_sold : (w v : Row) (own : List ℕ) → w ≡ v → Sold (ticket_from v own) → Sold (ticket_from w own)
+row_sold w v own read sold = subst (λ (r : Row). Sold (ticket_from r own)) (sym read) sold
 
 -- and what is told of it is told of the ticket
 by_row : (w v : Row) (own : List ℕ) (game : ℕ) (draw : Draw) {cents : ℕ}
@@ -40,14 +40,14 @@ pub overflow_cast-row : goal.overflow_cast-row
 overflow_cast-row c =
     let args = c.args in
     let own = marks_at args.marks.now args.i in
-    let sold = row-sold c.read_row-row.result (row_at args.rows.now args.i) own c.read_row-row.ensures c.requires.sold in
+    let sold = row_sold c.read_row-row.result (row_at args.rows.now args.i) own c.read_row-row.ensures c.requires.sold in
     record { fits = feature_narrow c.read_row-row.result own sold.playable }
 
 pub feature_prize-requires : goal.feature_prize-requires
 feature_prize-requires c =
     let args = c.args in
     let own = marks_at args.marks.now args.i in
-    let sold = row-sold c.read_row-row.result (row_at args.rows.now args.i) own c.read_row-row.ensures c.requires.sold in
+    let sold = row_sold c.read_row-row.result (row_at args.rows.now args.i) own c.read_row-row.ensures c.requires.sold in
     subst (KeptSizes c.read_row-row.result.sizes) (sym c.own_marks.ensures) (kept_sizes c.read_row-row.result own sold)
 
 pub returns : goal.returns

@@ -14,8 +14,8 @@ use Rattle.settlement.proofs.PassSteps.{row_narrow, ticket_rests, ticket_runs}
 use Rattle.settlement.proofs.payouts.find_ticket.Goals as goal
 
 -- the row that was read is the ticket's
-row-sold : (w v : Row) (own : List ℕ) → w ≡ v → Sold (ticket_from v own) → Sold (ticket_from w own)
-row-sold w v own read sold = subst (λ (r : Row). Sold (ticket_from r own)) (sym read) sold
+row_sold : (w v : Row) (own : List ℕ) → w ≡ v → Sold (ticket_from v own) → Sold (ticket_from w own)
+row_sold w v own read sold = subst (λ (r : Row). Sold (ticket_from r own)) (sym read) sold
 
 pub returns-then-not-runs_in : goal.returns-then-not-runs_in
 returns-then-not-runs_in c =
@@ -33,19 +33,19 @@ own_marks-requires c =
 pub group_table-groups-requires : goal.group_table-groups-requires
 group_table-groups-requires c =
     let own = marks_at c.args.marks.now c.args.i in
-    let sold = row-sold c.read_row-row.result (row_at c.args.rows.now c.args.i) own c.read_row-row.ensures c.requires.0.sold in
+    let sold = row_sold c.read_row-row.result (row_at c.args.rows.now c.args.i) own c.read_row-row.ensures c.requires.0.sold in
     subst Grouping (sym c.own_marks.ensures) sold.playable.marks
 
 pub row_terms-requires : goal.row_terms-requires
 row_terms-requires c =
     let own = marks_at c.args.marks.now c.args.i in
-    let sold = row-sold c.read_row-row.result (row_at c.args.rows.now c.args.i) own c.read_row-row.ensures c.requires.0.sold in
+    let sold = row_sold c.read_row-row.result (row_at c.args.rows.now c.args.i) own c.read_row-row.ensures c.requires.0.sold in
     row_narrow c.read_row-row.result own sold.playable
 
 pub ticket_prizes-requires : goal.ticket_prizes-requires
 ticket_prizes-requires c =
     let own = marks_at c.args.marks.now c.args.i in
-    let sold = row-sold c.read_row-row.result (row_at c.args.rows.now c.args.i) own c.read_row-row.ensures c.requires.0.sold in (
+    let sold = row_sold c.read_row-row.result (row_at c.args.rows.now c.args.i) own c.read_row-row.ensures c.requires.0.sold in (
       subst Sound (sym c.row_terms.ensures) (terms_sound (ticket_from c.read_row-row.result own).operands sold.playable),
       c.group_table-groups.ensures.groups,
       c.requires.1,
@@ -57,7 +57,7 @@ returns c =
     let args = c.args in
     let row = c.read_row-row.result in
     let own = marks_at args.marks.now args.i in
-    let sold = row-sold row (row_at args.rows.now args.i) own c.read_row-row.ensures c.requires.0.sold in
+    let sold = row_sold row (row_at args.rows.now args.i) own c.read_row-row.ensures c.requires.0.sold in
     -- the table is that of the ticket's own marks
     let grouped = subst (λ (l : List ℕ). GroupsOf row.sizes args.draw l c.group_table-groups.result) c.own_marks.ensures c.group_table-groups.ensures in
     subst (λ (w : Row). FoundAt args.game args.draw (ticket_from w own) args.before args.majors.now c.ticket_prizes.result c.ticket_prizes.new.majors)

@@ -30,15 +30,15 @@ module _ {pss : List (List ℕ)} {sure ends majors : List ℕ} {cut : Cut} (k : 
       start_next pss sure ends majors cut k i placed
       ∙ ap (λ n. n + length (keep is_major (get_or pss i []))) (sym turn.place)
 
-  own-many : get_or ends i 0 - from ≡ length (keep is_major (get_or pss i []))
-  own-many = omega (arith, ends_at)
+  own_many : get_or ends i 0 - from ≡ length (keep is_major (get_or pss i []))
+  own_many = omega (arith, ends_at)
 
   raised : {cents : ℕ} → cents ≡ sum (map (λ p. pay_under cut p - major_floor) (take (get_or ends i 0 - from) (drop from majors)))
       → get_or paid i 0 + cents ≡ sum (map (payout (all_majors pss)) (get_or pss i []))
   raised {cents} raise =
       ap (λ n. n + cents) (sure_ahead pss sure ends majors cut k turn placed)
       ∙ ap (λ n. sure_cents (get_or pss i []) + n) raise
-      ∙ raise_gives pss sure ends majors cut k i placed turn.place own-many
+      ∙ raise_gives pss sure ends majors cut k i placed turn.place own_many
 
 pub overflow_sub-end : goal.overflow_sub-end
 overflow_sub-end c =
@@ -53,7 +53,7 @@ raise_of-requires c =
     let placed : c.loop-i.i < length given.prizes = omega (arith, given.count, c.loop-i-test.true) in
     let turn = c.loop-i.invariant given.prizes given.count given.cutting in
     raise_asks given.prizes args.paid.now args.ends.now args.majors.now args.cut given.cutting c.loop-i.i
-    placed turn.place (own-many given.cutting turn placed)
+    placed turn.place (own_many given.cutting turn placed)
 
 pub bounds-paid-i : goal.bounds-paid-i
 bounds-paid-i c = omega (arith, c.loop-i-test.true, c.requires.count, c.requires.cutting.few)

@@ -42,33 +42,33 @@ module _ (house : House) (rows marks : List ℕ) (draw : Draw) (given : Settleab
     matched : Matched house rows full
     matched = record { marks = marks; draw = draw; reached = given.reached; matches = matches }
 
-    rows-entered : Entered rows full house.live
-    rows-entered = entered house rows full marks draw given.reached matches
+    rows_entered : Entered rows full house.live
+    rows_entered = entered house rows full marks draw given.reached matches
 
     -- the sum of the table is that of the prizes
     total : sum (take house.live prizes) ≡ (settled_by draw m).prizes
     total = ap (λ n. sum (take n prizes)) (sym count) ∙ prizes_total m draw prizes prized.prizes
 
-    total-fits : (house.live ≤ length prizes) × (sum (take house.live prizes) < 2 ^ 64)
-    total-fits = (omega (arith, count, spread_fills _ prizes _ m.live prized.prizes), omega (arith, total, given.room))
+    total_fits : (house.live ≤ length prizes) × (sum (take house.live prizes) < 2 ^ 64)
+    total_fits = (omega (arith, count, spread_fills _ prizes _ m.live prized.prizes), omega (arith, total, given.room))
 
-    prizes-room : (i : ℕ) → i < house.live → get_or prizes i 0 < 2 ^ 63
-    prizes-room i b = omega (arith, prizes_fit m draw prizes given.room i (omega (arith, count)) prized.prizes)
+    prizes_room : (i : ℕ) → i < house.live → get_or prizes i 0 < 2 ^ 63
+    prizes_room i b = omega (arith, prizes_fit m draw prizes given.room i (omega (arith, count)) prized.prizes)
 
     -- ---- the shares of the jackpot for 6 with them
 
     module _ {shared : List ℕ} {six : Part} (part : SharedOut m 6 draw m.six prizes shared six) where
-      held-six : Holds m draw shared (zip_with ◌+◌ (drawn_prizes m draw) (six_shares m draw))
-      held-six = part.joined (drawn_prizes m draw) (prizes_count m draw) prized.prizes
+      held_six : Holds m draw shared (zip_with ◌+◌ (drawn_prizes m draw) (six_shares m draw))
+      held_six = part.joined (drawn_prizes m draw) (prizes_count m draw) prized.prizes
 
-      six-room : (i : ℕ) → i < house.live → get_or shared i 0 < 2 ^ 63
-      six-room i b = omega (arith, six_fit m draw shared given.room i (omega (arith, count)) held-six)
+      six_room : (i : ℕ) → i < house.live → get_or shared i 0 < 2 ^ 63
+      six_room i b = omega (arith, six_fit m draw shared given.room i (omega (arith, count)) held_six)
 
       -- ---- and those for 8, which are the awards
 
       held : {awards : List ℕ} {eight : Part} → SharedOut m 8 draw m.eight shared awards eight → Holds m draw awards (settled_by draw m).awards
       held last =
-          last.joined (zip_with ◌+◌ (drawn_prizes m draw) (six_shares m draw)) (with_six_count m draw) held-six
+          last.joined (zip_with ◌+◌ (drawn_prizes m draw) (six_shares m draw)) (with_six_count m draw) held_six
           ∙ ap (λ (figures : List ℕ). spread m.game figures m.live) (sym (awards_whole m draw))
 
 -- a jackpot's part, by its number
@@ -82,8 +82,8 @@ pub find_figures-figures-requires : goal.find_figures-figures-requires
 find_figures-figures-requires c =
     let args = c.args in
     record {
-      rows = rows-entered args.house args.rows.now args.marks.now args.draw c.requires c.find_prizes.ensures;
-      prizes = total-fits args.house args.rows.now args.marks.now args.draw c.requires c.find_prizes.ensures;
+      rows = rows_entered args.house args.rows.now args.marks.now args.draw c.requires c.find_prizes.ensures;
+      prizes = total_fits args.house args.rows.now args.marks.now args.draw c.requires c.find_prizes.ensures;
     }
 
 pub settle_jackpot-six-requires : goal.settle_jackpot-six-requires
@@ -98,7 +98,7 @@ settle_jackpot-six-requires c =
       stakes = ap (λ (f : GameFigures). f.six) c.find_figures-figures.ensures
           ∙ ap (λ j. stakes_of args.rows.now c.find_prizes.new.full args.house.game j args.house.live) (sym number);
       pools = (pools.primary, pools.secondary, pools.reimbursement, pools.debt);
-      room = prizes-room args.house args.rows.now args.marks.now args.draw c.requires c.find_prizes.ensures;
+      room = prizes_room args.house args.rows.now args.marks.now args.draw c.requires c.find_prizes.ensures;
     }
 
 pub settle_jackpot-eight-requires : goal.settle_jackpot-eight-requires
@@ -118,7 +118,7 @@ settle_jackpot-eight-requires c =
       stakes = ap (λ (f : GameFigures). f.eight) c.find_figures-figures.ensures
           ∙ ap (λ j. stakes_of args.rows.now c.find_prizes.new.full args.house.game j args.house.live) (sym number);
       pools = (pools.primary, pools.secondary, pools.reimbursement, pools.debt);
-      room = six-room args.house args.rows.now args.marks.now args.draw c.requires c.find_prizes.ensures six;
+      room = six_room args.house args.rows.now args.marks.now args.draw c.requires c.find_prizes.ensures six;
     }
 
 pub returns : goal.returns

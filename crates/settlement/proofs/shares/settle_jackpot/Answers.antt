@@ -13,27 +13,27 @@ use borrow.Author.Rules.{rules}
 use Rattle.settlement.proofs.shares.settle_jackpot.Goals as goal
 
 -- the rows of a house that is matched
-entered-rows : (house : House) (rows full : List ℕ) → Matched house rows full → Entered rows full house.live
-entered-rows house rows full h = entered house rows full h.marks h.draw h.reached h.matches
+entered_rows : (house : House) (rows full : List ℕ) → Matched house rows full → Entered rows full house.live
+entered_rows house rows full h = entered house rows full h.marks h.draw h.reached h.matches
 
 -- a jackpot's stakes in them
-paid-few : (house : House) (rows full : List ℕ) (j paid : ℕ) → Matched house rows full → paid ≡ stakes_in rows house.game j house.live → paid ≤ 200 * charge_limit
-paid-few house rows full j paid h here =
-    let entries = entered-rows house rows full h in
+paid_few : (house : House) (rows full : List ℕ) (j paid : ℕ) → Matched house rows full → paid ≡ stakes_in rows house.game j house.live → paid ≤ 200 * charge_limit
+paid_few house rows full j paid h here =
+    let entries = entered_rows house rows full h in
     omega (arith, here, entries.few, stakes_within rows house.game full house.live entries j house.live (omega arith))
 
 pub contributed-grown-requires : goal.contributed-grown-requires
 contributed-grown-requires c =
     let args = c.args in
-    let few = paid-few args.house args.rows.now args.full.now args.stakes.jackpot args.stakes.paid c.requires.house (ap (λ r. r.paid) c.requires.stakes) in
+    let few = paid_few args.house args.rows.now args.full.now args.stakes.jackpot args.stakes.paid c.requires.house (ap (λ r. r.paid) c.requires.stakes) in
     search rules
 
 pub share_out-shares-requires : goal.share_out-shares-requires
 share_out-shares-requires c =
     let args = c.args in
-    let few = paid-few args.house args.rows.now args.full.now args.stakes.jackpot args.stakes.paid c.requires.house (ap (λ r. r.paid) c.requires.stakes) in
+    let few = paid_few args.house args.rows.now args.full.now args.stakes.jackpot args.stakes.paid c.requires.house (ap (λ r. r.paid) c.requires.stakes) in
     record {
-      entered = entered-rows args.house args.rows.now args.full.now c.requires.house;
+      entered = entered_rows args.house args.rows.now args.full.now c.requires.house;
       total = ap (λ r. r.winning) c.requires.stakes;
       pool = (grown_roomy args.stakes.paid args.before c.contributed-grown.result c.contributed-grown.ensures few c.requires.pools).0;
       room = c.requires.room;
@@ -42,7 +42,7 @@ share_out-shares-requires c =
 pub reseeded-next-requires : goal.reseeded-next-requires
 reseeded-next-requires c =
     let args = c.args in
-    let few = paid-few args.house args.rows.now args.full.now args.stakes.jackpot args.stakes.paid c.requires.house (ap (λ r. r.paid) c.requires.stakes) in
+    let few = paid_few args.house args.rows.now args.full.now args.stakes.jackpot args.stakes.paid c.requires.house (ap (λ r. r.paid) c.requires.stakes) in
     record {
       room = (grown_roomy args.stakes.paid args.before c.contributed-grown.result c.contributed-grown.ensures few c.requires.pools).1;
       limit = subst⁻¹ (λ n. n < 2 ^ 63) c.guarantee_of-guarantee.ensures (guarantee_within args.stakes.jackpot);
