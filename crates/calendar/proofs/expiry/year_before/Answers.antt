@@ -2,7 +2,6 @@
 use Prim.Native.Nat.{ℕ, ◌+◌, ◌%◌}
 use mathlib.Core.Path.{◌≡◌, sym}
 use native.Mathlib.Nat.{mod-add-mod}
-use borrow.Author.Rules.{rules}
 use Rattle.calendar.specs.Bounds.{cycle_day, year_before}
 use Rattle.calendar.proofs.LeapDays.{long_first, long_later, short_first, short_later}
 use Rattle.calendar.proofs.expiry.year_before.Goals as goal

@@ -5,7 +5,6 @@ use native.Mathlib.Omega.{arith}
 use lib.ListN.{take}
 use Rattle.house.specs.View.{ticket_from, tickets_of}
 use Rattle.house.proofs.RowLaws.{tickets_length, tickets_put, take_sold}
-use borrow.Author.Rules.{rules}
 use Rattle.house.proofs.rows.append_ticket.Goals as goal
 
 pub returns : goal.returns

@@ -2,7 +2,6 @@
 use mathlib.Core.Path.{ap, ◌∙◌}
 use Rattle.house.specs.View.{tickets_of}
 use Rattle.house.proofs.RowLaws.{tickets_put_row}
-use borrow.Author.Rules.{rules}
 use Rattle.house.proofs.rows.change_ticket.Goals as goal
 
 pub returns : goal.returns

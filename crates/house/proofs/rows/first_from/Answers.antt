@@ -1,9 +1,7 @@
 -- `house::rows::first_from` meets its contract: every number before `low` is below the one looked for, and none from `high` on is. The measure
 -- is what lies between the two.
-use Prim.Native.Nat.{ℕ, ◌+◌, ◌-◌, ◌*◌, ◌/◌, ◌≤◌, ◌<◌}
+use Prim.Native.Nat.{◌+◌, ◌/◌}
 use native.Mathlib.Omega.{arith}
-use lib.ListN.{get_or}
-use borrow.Author.Rules.{rules}
 use Rattle.house.proofs.RowLaws.{before_more, after_more}
 use Rattle.house.proofs.rows.first_from.Goals as goal
 

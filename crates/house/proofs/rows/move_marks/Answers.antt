@@ -1,8 +1,8 @@
 -- `house::rows::move_marks` meets its contract: each turn is one store more of the run of 80, and what it reads lies behind the run, so it is
 -- as it was at entry.
-use Prim.Native.Nat.{◌≤◌, ◌+◌, ◌-◌, ◌*◌}
+use Prim.Native.Nat.{◌+◌, ◌*◌}
 use mathlib.Core.Path.{◌≡◌, refl, ap, ◌∙◌}
-use lib.ListN.{length, take, set, get_or}
+use lib.ListN.{length, set, get_or}
 use lib.Seq.{sets, take_all}
 use Rattle.house.specs.View.{marks_at}
 use native.Mathlib.Omega.{arith}

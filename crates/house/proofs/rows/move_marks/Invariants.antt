@@ -1,13 +1,10 @@
 -- `house::rows::move_marks` meets its contract: each turn is one store more of the run of 80, and what it reads lies behind the run, so it is
 -- as it was at entry.
-use Prim.Native.Nat.{◌≤◌, ◌+◌, ◌-◌, ◌*◌}
-use mathlib.Core.Path.{◌≡◌, refl, ap, ◌∙◌}
-use lib.ListN.{length, take, set, get_or}
-use lib.Seq.{sets, take_all}
+use Prim.Native.Nat.{◌≤◌, ◌-◌}
+use mathlib.Core.Path.{◌≡◌}
+use lib.ListN.{take}
+use lib.Seq.{sets}
 use Rattle.house.specs.View.{marks_at}
-use native.Mathlib.Omega.{arith}
-use borrow.Author.Rules.{rules}
-use Rattle.house.proofs.RowLaws.{put_marks_sets, length_marks_at, marks_move}
 use Rattle.house.proofs.rows.move_marks.Given as goal
 
 abbrev pub invariant-loop-k : goal.invariant-loop-k

@@ -7,7 +7,6 @@ use lib.Seq.{set-get_or}
 use Rattle.house.specs.Commands.{blank_ticket}
 use Rattle.house.specs.View.{put_row, tickets_of}
 use Rattle.house.proofs.RowLaws.{tickets_move}
-use borrow.Author.Rules.{rules}
 use Rattle.house.proofs.rows.move_ticket.Goals as goal
 
 pub returns-then-to-from : goal.returns-then-to-from

@@ -1,10 +1,9 @@
 -- `house::rows::place_of` meets its contract: if any ticket has the number, it stands at the first place from which the numbers are not below it.
-use Prim.Native.Nat.{ℕ, ◌≤◌, ◌<◌, ◌*◌}
-use mathlib.Core.Path.{◌≡◌, sym, ap, ◌∙◌}
+use Prim.Native.Nat.{◌*◌}
+use mathlib.Core.Path.{sym, ap, ◌∙◌}
 use mathlib.Core.Logic.{⊎_elim}
 use lib.ListN.{get_or}
 use native.Mathlib.Omega.{arith}
-use borrow.Author.Rules.{rules}
 use Rattle.house.proofs.RowLists.{equal_or_not, earlier_or_not}
 use Rattle.house.proofs.RowLaws.{place_of_row, place_of_none}
 use Rattle.house.proofs.rows.place_of.Goals as goal

@@ -1,7 +1,7 @@
 -- `house::rows::put_words` meets its contract: each turn is one store more of the run.
-use Prim.Native.Nat.{◌≤◌, ◌+◌, ◌-◌}
-use mathlib.Core.Path.{◌≡◌, refl, ap, ◌∙◌}
-use lib.ListN.{take, set, get_or}
+use Prim.Native.Nat.{◌+◌}
+use mathlib.Core.Path.{refl, ap, ◌∙◌}
+use lib.ListN.{set, get_or}
 use lib.Seq.{sets, take_all}
 use native.Mathlib.Omega.{arith}
 use borrow.Author.Rules.{rules}

@@ -1,11 +1,8 @@
 -- `house::rows::put_words` meets its contract: each turn is one store more of the run.
-use Prim.Native.Nat.{◌≤◌, ◌+◌, ◌-◌}
-use mathlib.Core.Path.{◌≡◌, refl, ap, ◌∙◌}
-use lib.ListN.{take, set, get_or}
-use lib.Seq.{sets, take_all}
-use native.Mathlib.Omega.{arith}
-use borrow.Author.Rules.{rules}
-use Rattle.house.proofs.RowLists.{sets_more}
+use Prim.Native.Nat.{◌≤◌, ◌-◌}
+use mathlib.Core.Path.{◌≡◌}
+use lib.ListN.{take}
+use lib.Seq.{sets}
 use Rattle.house.proofs.rows.put_words.Given as goal
 
 abbrev pub invariant-loop-k : goal.invariant-loop-k

@@ -4,7 +4,6 @@ use Prim.Native.Nat.{◌-◌}
 use lib.ListN.{take}
 use Rattle.house.specs.View.{tickets_of}
 use Rattle.house.proofs.RowLaws.{tickets_without}
-use borrow.Author.Rules.{rules}
 use Rattle.house.proofs.rows.remove_ticket.Goals as goal
 
 pub returns : goal.returns

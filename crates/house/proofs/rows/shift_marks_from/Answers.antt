@@ -1,6 +1,5 @@
 -- `house::rows::shift_marks_from` meets its contract: the marks from the place on are lent, and come back shifted.
 use native.Mathlib.Omega.{arith}
-use borrow.Author.Rules.{rules}
 use Rattle.house.proofs.RowLists.{shifted_part}
 use Rattle.house.proofs.rows.shift_marks_from.Goals as goal
 

@@ -1,7 +1,7 @@
 -- `house::rows::shift_words` meets its contract: each turn shifts one word more.
-use Prim.Native.Nat.{◌≤◌, ◌+◌, ◌-◌}
+use Prim.Native.Nat.{◌+◌}
 use mathlib.Core.Path.{◌≡◌, refl, ap, ◌∙◌}
-use lib.ListN.{length, set, get_or}
+use lib.ListN.{set, get_or}
 use native.Mathlib.Omega.{arith}
 use borrow.Author.Rules.{rules}
 use Rattle.house.specs.View.{shifted}

@@ -1,11 +1,8 @@
 -- `house::rows::shift_words` meets its contract: each turn shifts one word more.
-use Prim.Native.Nat.{◌≤◌, ◌+◌, ◌-◌}
-use mathlib.Core.Path.{◌≡◌, refl, ap, ◌∙◌}
-use lib.ListN.{length, set, get_or}
-use native.Mathlib.Omega.{arith}
-use borrow.Author.Rules.{rules}
+use Prim.Native.Nat.{◌≤◌, ◌-◌}
+use mathlib.Core.Path.{◌≡◌}
+use lib.ListN.{length}
 use Rattle.house.specs.View.{shifted}
-use Rattle.house.proofs.RowLists.{shifted_more}
 use Rattle.house.proofs.rows.shift_words.Given as goal
 
 abbrev pub invariant-loop-k : goal.invariant-loop-k

@@ -1,12 +1,8 @@
 -- `house::rows::write_marks` meets its contract: each turn is one store more of the run of 80.
-use Prim.Native.Nat.{◌≤◌, ◌+◌, ◌-◌, ◌*◌}
-use mathlib.Core.Path.{◌≡◌, refl, ap, ◌∙◌}
-use lib.ListN.{take, set, get_or}
-use lib.Seq.{sets, take_all}
-use native.Mathlib.Omega.{arith}
-use borrow.Author.Rules.{rules}
-use Rattle.house.proofs.RowLists.{sets_more}
-use Rattle.house.proofs.RowLaws.{put_marks_sets}
+use Prim.Native.Nat.{◌≤◌, ◌-◌}
+use mathlib.Core.Path.{◌≡◌}
+use lib.ListN.{take}
+use lib.Seq.{sets}
 use Rattle.house.proofs.rows.write_marks.Given as goal
 
 abbrev pub invariant-loop-k : goal.invariant-loop-k

@@ -1,8 +1,7 @@
 -- `house::ticket::finished_on` meets its contract: a finishing day is set only where none stands and no game is left.
 use mathlib.Core.Path.{◌≡◌, refl, sym, ◌∙◌}
 use mathlib.Core.Bool.{Bool, true, false, ◌&&◌}
-use borrow.Author.Rules.{rules}
-use borrow.Author.Tests.{eq-eqb, ne_eqb, not-true, not-false}
+use borrow.Author.Tests.{eq-eqb, ne_eqb}
 use Rattle.house.specs.Tickets.{is_finished}
 use Rattle.house.specs.View.{ticket_from}
 use Rattle.house.proofs.ticket.finished_on.Goals as goal

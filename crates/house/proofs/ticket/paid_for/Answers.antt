@@ -5,8 +5,6 @@ use mathlib.Core.Path.{◌≡◌, refl, sym, ap, ◌∙◌}
 use mathlib.Core.Bool.{Bool, true, false, cond}
 use native.Mathlib.Nat.{mul-one, mul-zero}
 use native.Mathlib.Omega.{arith}
-use borrow.Author.Rules.{rules}
-use borrow.Author.Tests.{not-true, not-false}
 use Rattle.sale.specs.Price.{charge}
 use Rattle.house.specs.Tickets.{Ticket, runs_in, ticket_price, paid_stakes}
 use Rattle.house.specs.View.{ticket_from}

@@ -5,7 +5,6 @@ use mathlib.Core.Path.{◌≡◌, sym, ap, ◌∙◌}
 use mathlib.Core.List.{List, []}
 use native.Mathlib.Nat.{mul-le-mul_left, mul-one}
 use native.Mathlib.Omega.{arith}
-use borrow.Author.Rules.{rules}
 use Rattle.sale.specs.Price.{charge, charge_limit}
 use Rattle.house.specs.Tickets.{Ticket, ticket_price, paid_stakes}
 use Rattle.house.specs.View.{ticket_from, Affordable}

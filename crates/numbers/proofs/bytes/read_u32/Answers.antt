@@ -1,7 +1,6 @@
 -- `numbers::bytes::read_u32` meets its contract: four bytes in a row are their two halves.
 use Prim.Native.Nat.{◌+◌, ◌*◌}
 use mathlib.Core.Path.{sym, ap₂, ◌∙◌}
-use borrow.Author.Rules.{rules}
 use Rattle.numbers.proofs.ByteLaws.{by_parts}
 use Rattle.numbers.proofs.bytes.read_u32.Goals as goal
 

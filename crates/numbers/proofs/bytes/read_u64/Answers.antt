@@ -1,5 +1,4 @@
 -- `numbers::bytes::read_u64` meets its contract: eight bytes in a row are their two halves.
-use borrow.Author.Rules.{rules}
 use Prim.Native.Nat.{◌+◌, ◌*◌}
 use mathlib.Core.Path.{sym, ap₂, ◌∙◌}
 use Rattle.numbers.proofs.ByteLaws.{by_parts}

@@ -1,7 +1,6 @@
 -- `numbers::bytes::write_u32` meets its contract: four stores in a row are the bytes of the number in their places.
 use native.Mathlib.Omega.{arith}
 use lib.ListN.{length-set}
-use borrow.Author.Rules.{rules}
 use Rattle.numbers.proofs.ByteLaws.{four_stored}
 use Rattle.numbers.proofs.bytes.write_u32.Goals as goal
 

@@ -1,5 +1,4 @@
 -- `numbers::bytes::write_u64` meets its contract: the two halves are written one behind the other.
-use borrow.Author.Rules.{rules}
 use Rattle.numbers.proofs.ByteLaws.{eight_stored}
 use Rattle.numbers.proofs.bytes.write_u64.Goals as goal
 

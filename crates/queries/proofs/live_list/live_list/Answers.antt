@@ -1,7 +1,5 @@
 -- `queries::live_list::live_list` meets its contract: the numbers of the live rows are the live tickets', and they rise.
-use Prim.Native.Nat.{◌≤◌}
 use native.Mathlib.Omega.{arith}
-use borrow.Author.Rules.{rules}
 use Rattle.queries.proofs.TillLaws.{rows_few}
 use Rattle.queries.proofs.ListingLaws.{number_small, listing_refused, listing_written}
 use Rattle.queries.proofs.live_list.live_list.Goals as goal

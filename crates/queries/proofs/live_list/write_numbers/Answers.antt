@@ -2,9 +2,8 @@
 use Prim.Native.Nat.{ℕ, ◌+◌, ◌*◌}
 use mathlib.Core.Path.{◌≡◌, refl, ap, ◌∙◌}
 use native.Mathlib.Omega.{arith}
-use borrow.Author.Rules.{rules}
 use mathlib.Core.List.{List, ◌++◌}
-use lib.ListN.{length, take, drop}
+use lib.ListN.{take, drop}
 use Rattle.numbers.specs.Bytes.{bytes_of}
 use Rattle.house.specs.declared.rows.Row.{Row}
 use Rattle.house.specs.View.{row_at}

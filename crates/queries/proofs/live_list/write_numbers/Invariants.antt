@@ -1,13 +1,8 @@
 -- `queries::live_list::write_numbers` meets its contract: each turn writes one number more behind the others.
-use Prim.Native.Nat.{◌+◌, ◌*◌}
-use mathlib.Core.Path.{◌≡◌, refl, ap, ◌∙◌}
-use native.Mathlib.Omega.{arith}
-use borrow.Author.Rules.{rules}
-use mathlib.Core.List.{◌++◌}
-use lib.ListN.{length, take, drop}
-use Rattle.numbers.specs.Bytes.{bytes_of}
-use Rattle.house.specs.declared.rows.Row.{Row}
-use Rattle.queries.proofs.ListingLaws.{number_at, listed_to, listed_none, listed_more}
+use Prim.Native.Nat.{◌+◌}
+use mathlib.Core.Path.{◌≡◌}
+use lib.ListN.{length}
+use Rattle.queries.proofs.ListingLaws.{number_at, listed_to}
 use Rattle.queries.proofs.live_list.write_numbers.Given as goal
 
 abbrev pub invariant-loop-left : goal.invariant-loop-left

@@ -1,8 +1,7 @@
 -- `queries::till::held_of` meets its contract: each turn adds what is held for one row more, and the whole fits.
-use Prim.Native.Nat.{◌+◌, ◌-◌, ◌≤◌}
+use Prim.Native.Nat.{◌+◌}
 use mathlib.Core.Path.{◌≡◌, sym, ap, ◌∙◌}
 use native.Mathlib.Omega.{arith}
-use borrow.Author.Rules.{rules}
 use Rattle.queries.proofs.TillLaws.{total, total_none, total_more, held_at, held_of_row, held_rows, held_small, held_fits, rows_few}
 use Rattle.queries.proofs.till.held_of.Goals as goal
 use Rattle.queries.proofs.till.held_of.Lts

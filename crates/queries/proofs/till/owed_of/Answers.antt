@@ -1,8 +1,7 @@
 -- `queries::till::owed_of` meets its contract: each turn adds what one row more is due, and the whole fits.
-use Prim.Native.Nat.{◌+◌, ◌-◌, ◌≤◌}
+use Prim.Native.Nat.{◌+◌}
 use mathlib.Core.Path.{◌≡◌, sym, ap, ◌∙◌}
 use native.Mathlib.Omega.{arith}
-use borrow.Author.Rules.{rules}
 use Rattle.house.specs.declared.rows.Row.{Row}
 use Rattle.queries.proofs.TillLaws.{total, total_none, total_more, due_at, owed_rows, owed_fits, rows_few}
 use Rattle.queries.proofs.till.owed_of.Goals as goal

@@ -1,6 +1,5 @@
 -- `queries::till::till_of` meets its contract: the counters are the view's, and the sums over tickets and pools are those of the till.
 use Rattle.queries.proofs.TillLaws.{pooled_fits, shown_till_lem}
-use borrow.Author.Rules.{rules}
 use Rattle.queries.proofs.till.till_of.Goals as goal
 
 pub pooled_in-requires : goal.pooled_in-requires

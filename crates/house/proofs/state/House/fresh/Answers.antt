@@ -1,7 +1,6 @@
 -- `house::state::House::fresh` meets its contract: no ticket and no ball is taken from the buffers, and the jackpots are as the rule book makes them.
 use Rattle.sale.specs.Lists.{below}
 use Rattle.house.specs.View.{view}
-use borrow.Author.Rules.{rules}
 use Rattle.house.proofs.state.House.fresh.Goals as goal
 
 pub returns : goal.returns
