@@ -8,7 +8,7 @@ use mathlib.Core.Bool.{Bool, true, false}
 use mathlib.Core.Logic.{◌⊎◌, inl, inr, ⊎_elim}
 use lib.Dec.{ltb, eqb}
 use borrow.Author.Tests.{eqb-true, eqb-false, ltb-true, ltb-false, lt-ltb, le-ltb, ne_eqb}
-use Rattle.calendar.specs.Calendar.{Date, date_of, day_of, IsDate, a_year_on, is_later, has_expired, day_aYear_on}
+use Rattle.calendar.specs.Calendar.{Date, date_of, day_of, IsDate, a_year_on, is_later, has_expired, day_a_year_on}
 use Rattle.calendar.specs.Bounds.{year_before}
 use Rattle.calendar.proofs.DateLaws.{dates_numbered}
 use Rattle.calendar.proofs.DateOrder.{number_positive, later_by_number, same_number}
@@ -31,19 +31,19 @@ pub each_others_inverse :
 each_others_inverse = (numbered_date, dated_number)
 
 -- a year on is 365 or 366 days later
-pub a_year_later : (n : ℕ) → (day_aYear_on n ≡ n + 365) ⊎ (day_aYear_on n ≡ n + 366)
+pub a_year_later : (n : ℕ) → (day_a_year_on n ≡ n + 365) ⊎ (day_a_year_on n ≡ n + 366)
 a_year_later n =
     ⊎_elim (λ e. inl (on_day_lem n ∙ ap (λ days. n + days) e)) (λ e. inr (on_day_lem n ∙ ap (λ days. n + days) e)) (two_lengths (n + 366))
 
 -- as days go on, a year on never goes back
-pub never_back : (m n : ℕ) → m ≤ n → day_aYear_on m ≤ day_aYear_on n
+pub never_back : (m n : ℕ) → m ≤ n → day_a_year_on m ≤ day_a_year_on n
 never_back m n h = go (eqb m n) refl
   where
-    go : (same : Bool) → eqb m n ≡ same → day_aYear_on m ≤ day_aYear_on n
-    go true e = omega (arith, ap day_aYear_on (eqb-true m n e))
+    go : (same : Bool) → eqb m n ≡ same → day_a_year_on m ≤ day_a_year_on n
+    go true e = omega (arith, ap day_a_year_on (eqb-true m n e))
     go false e = ⊎_elim (λ a. less (omega arith)) (λ a. less (omega arith)) (a_year_later m)
       where
-        less : day_aYear_on m ≤ m + 366 → day_aYear_on m ≤ day_aYear_on n
+        less : day_a_year_on m ≤ m + 366 → day_a_year_on m ≤ day_a_year_on n
         less most = ⊎_elim (λ b. omega (arith, eqb-false m n e)) (λ b. omega (arith, eqb-false m n e)) (a_year_later n)
 
 -- two days of which either is 365 or 366 days after one, compared with a day that is not 366 days after it
@@ -68,23 +68,23 @@ unfolding is_later date_of
 none_earlier z d = rw (le-ltb z.year 1997 (omega (arith, d.year)), ne_eqb z.year 1997 (λ e. omega (arith, d.year)))
 
 -- today's date is later than a finishing date a year on exactly if its number is larger
-expired_by_number : (today finished : ℕ) → has_expired today finished ≡ ltb (day_aYear_on finished) today
+expired_by_number : (today finished : ℕ) → has_expired today finished ≡ ltb (day_a_year_on finished) today
 unfolding has_expired
-expired_by_number zero finished = none_earlier (a_year_on (date_of finished)) (on_date finished) ∙ sym (le-ltb (day_aYear_on finished) 0 (omega arith))
+expired_by_number zero finished = none_earlier (a_year_on (date_of finished)) (on_date finished) ∙ sym (le-ltb (day_a_year_on finished) 0 (omega arith))
 expired_by_number (suc n) finished =
     later_by_number (date_of (suc n)) (a_year_on (date_of finished)) (dates_numbered n).date (on_date finished)
-    ∙ ap (λ number. ltb (day_aYear_on finished) number) (dates_numbered n).number
+    ∙ ap (λ number. ltb (day_a_year_on finished) number) (dates_numbered n).number
 
 -- so one number of days, worked out today, tells of every finishing day whether it has expired: which of the two it is matters only for the day
 -- that is 366 days back, and a year on from there is as long as a year back from here
 pub expired_by_days : (today finished : ℕ) → has_expired today finished ≡ ltb (finished + year_before today) today
 expired_by_days today finished = expired_by_number today finished ∙ go (eqb today (finished + 366)) refl
   where
-    go : (same : Bool) → eqb today (finished + 366) ≡ same → ltb (day_aYear_on finished) today ≡ ltb (finished + year_before today) today
+    go : (same : Bool) → eqb today (finished + 366) ≡ same → ltb (day_a_year_on finished) today ≡ ltb (finished + year_before today) today
     go true e =
         ap (λ day. ltb day today) (on_day_lem finished ∙ ap (λ day. finished + year_before day) (sym (eqb-true today (finished + 366) e)))
     go false e =
-        compared_alike finished (day_aYear_on finished) (finished + year_before today) today
+        compared_alike finished (day_a_year_on finished) (finished + year_before today) today
         (a_year_later finished)
         (⊎_elim (λ d. inl (ap (λ days. finished + days) d)) (λ d. inr (ap (λ days. finished + days) d)) (two_lengths today))
         (eqb-false today (finished + 366) e)

@@ -3,7 +3,7 @@ use Prim.Native.Nat.{ℕ}
 use mathlib.Core.Path.{◌≡◌, refl}
 use mathlib.Core.Bool.{true, false}
 use mathlib.Core.List.{[], ◌∷◌, map}
-use Rattle.calendar.specs.Calendar.{Date, is_leap_year, month_length, next_day, date_of, month_days, year_days, day_of, a_year_on, is_later, has_expired, day_aYear_on}
+use Rattle.calendar.specs.Calendar.{Date, is_leap_year, month_length, next_day, date_of, month_days, year_days, day_of, a_year_on, is_later, has_expired, day_a_year_on}
 
 abbrev pub date : ℕ → ℕ → ℕ → Date
 date day month year = record { year = year; month = month; day = day }
@@ -17,7 +17,7 @@ pub known_days :
     (map is_leap_year (1999 ∷ 2000 ∷ 2004 ∷ 2100 ∷ []) ≡ false ∷ true ∷ true ∷ false ∷ [])
     × (map date_of (425 ∷ 790 ∷ 791 ∷ []) ≡ date 1 3 1999 ∷ date 29 2 2000 ∷ date 1 3 2000 ∷ [])
     × (map day_of (date 1 3 2000 ∷ date 28 2 2100 ∷ date 1 3 2100 ∷ date 5 6 2177 ∷ []) ≡ 791 ∷ 37314 ∷ 37315 ∷ 65535 ∷ [])
-    × (map day_aYear_on (425 ∷ 789 ∷ 790 ∷ 791 ∷ []) ≡ 791 ∷ 1155 ∷ 1155 ∷ 1156 ∷ [])
+    × (map day_a_year_on (425 ∷ 789 ∷ 790 ∷ 791 ∷ []) ≡ 791 ∷ 1155 ∷ 1155 ∷ 1156 ∷ [])
     × (map (λ today. has_expired today 425) (791 ∷ 792 ∷ []) ≡ false ∷ true ∷ [])
 unfolding is_leap_year month_length next_day date_of month_days year_days day_of a_year_on is_later has_expired
 known_days = (refl, refl, refl, refl, refl)

@@ -7,7 +7,7 @@ use mathlib.Core.Bool.{Bool, true, false, cond, ◌&&◌, and-false}
 use mathlib.Core.Logic.{◌⊎◌, inl, inr}
 use lib.Dec.{leb, eqb}
 use borrow.Author.Tests.{eqb-true, eqb-false, leb-true, leb-false, eq-eqb, ne_eqb}
-use Rattle.calendar.specs.Calendar.{Date, is_leap_year, month_length, month_days, year_days, date_of, day_of, IsDate, is_leap_day, a_year_on, day_aYear_on}
+use Rattle.calendar.specs.Calendar.{Date, is_leap_year, month_length, month_days, year_days, date_of, day_of, IsDate, is_leap_day, a_year_on, day_a_year_on}
 use Rattle.calendar.specs.Bounds.{passed_leap_day, year_before}
 use Rattle.calendar.proofs.KnownDays.{date}
 use Rattle.calendar.proofs.DateLaws.{month_more, year_more, no_months, Numbered, dates_numbered}
@@ -166,12 +166,12 @@ two_lengths n = go (passed_leap_day n)
     go true = inr refl
     go false = inl refl
 
-on_day_zero : day_aYear_on 0 ≡ year_before 366
+on_day_zero : day_a_year_on 0 ≡ year_before 366
 unfolding year_before day_of a_year_on date_of month_length is_leap_year year_days month_days
 on_day_zero = refl
 
 -- and so from every day
-pub on_day_lem : (n : ℕ) → day_aYear_on n ≡ n + year_before (n + 366)
+pub on_day_lem : (n : ℕ) → day_a_year_on n ≡ n + year_before (n + 366)
 on_day_lem zero = on_day_zero ∙ omega arith
 on_day_lem (suc n) =
     let this : Numbered (date_of (suc n)) (suc n) = dates_numbered n in

@@ -76,5 +76,5 @@ pub record IsDate (x : Date) : Type 0 where
   pub in_month : x.day ≤ month_length x.year x.month
 
 -- the number of the day that has a day's date a year on
-abbrev pub day_aYear_on : ℕ → ℕ
-day_aYear_on n = day_of (a_year_on (date_of n))
+abbrev pub day_a_year_on : ℕ → ℕ
+day_a_year_on n = day_of (a_year_on (date_of n))

@@ -1,9 +1,11 @@
 //! The ledger program, whole prints compared with the reference's.
 
-use program::{run_ledger, run_ledger_in_pieces};
+use program::{ledger_program, run_ledger, run_ledger_in_pieces};
 use reference::ledger;
 use reference::ledger::LEDGER_BYTES;
 use rolls::{damaged, everything, mixed, Random};
+use std::fs::{File, OpenOptions};
+use std::process::{Command, Stdio};
 use std::time::{Duration, Instant};
 
 /// Document 01's roll, byte by byte, and what it says the program prints.
@@ -49,6 +51,20 @@ fn the_printed_example() {
     // Cut off at every place.
     for bytes in 0..printed_roll().len() {
         compare(&format!("{bytes} bytes"), &printed_roll()[..bytes]);
+    }
+}
+
+/// A read or a write that fails ends the program with an error: a folder cannot be read, and
+/// /dev/full takes no byte.
+#[test]
+fn a_failed_read_or_write_is_told() {
+    let folder = Stdio::from(File::open(".").expect("a folder"));
+    let full = Stdio::from(OpenOptions::new().write(true).open("/dev/full").expect("a device"));
+    for (input, output) in [(folder, Stdio::piped()), (Stdio::null(), full)] {
+        let run = Command::new(ledger_program()).stdin(input).stdout(output).output();
+        let run = run.expect("the program runs");
+        assert!(!run.status.success(), "{}", run.status);
+        assert!(run.stdout.is_empty() && !run.stderr.is_empty());
     }
 }
 
