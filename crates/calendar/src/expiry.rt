@@ -35,14 +35,11 @@ fn year_before(day: u64) -> u64
     YEAR
 }
 
-// The day before which a ticket finished if it has expired today: worked out once, it serves for every ticket. No day is added to, so none is
-// too large.
+// The day before which a ticket finished if it has expired today, and 0 in the first year: worked out once, it serves for every ticket. No day is added to,
+// so none is too large.
 pub fn expiry_bound(today: u64) -> u64
     ensures { ExpiryBound today result }
 {
     let year = year_before(today);
-    if today < year {
-        return 0;
-    }
-    today - year
+    today.saturating_sub(year)
 }

@@ -1,23 +1,26 @@
 // Open: a new day begins.
 ghost use Rattle.std.specs.Prelude.{List, ℕ};
 ghost use Rattle.house.specs.Commands.{open'};
-ghost use Rattle.house.specs.Parts.{Carried};
+ghost use Rattle.house.specs.Parts.{Carried, host_answer};
 
-use house::answer::{Outcome, accepted, refused};
+use house::answer::Receipt;
 use house::state::House;
+use refusals::refusal::Refusal;
 
 // Opens the lounge on a later day, while no game is drawn.
-pub fn open_day(house: House, day: u16) -> Outcome
-    ensures { (words marks : List ℕ) → Carried house words marks (open' day) result.house words marks result.answer }
+pub fn open_day(house: &mut House, day: u16) -> Result<Receipt, Refusal>
+    ensures { (words marks : List ℕ) → Carried house.old words marks (open' day) house.new words marks (host_answer result) }
 {
-    let today = day as u64;
+    let today = u64::from(day);
     if today <= house.day {
-        return refused(house, 5);
+        return Err(Refusal::DayNotLater);
     }
     if house.drawn != 0 {
-        return refused(house, 6);
+        return Err(Refusal::Drawing);
     }
-    let mut next = house;
-    next.day = today;
-    accepted(next, day as u32, 0)
+    house.day = today;
+    Ok(Receipt {
+        number: u32::from(day),
+        cents: 0,
+    })
 }

@@ -1,59 +1,62 @@
 // Transfer: unclaimed money into a jackpot's primary.
-ghost use Rattle.std.specs.Prelude.{◌≡◌, ◌||◌, List, ℕ, eqb};
-ghost use Rattle.house.specs.Commands.{transfer, code_of};
+ghost use Rattle.std.specs.Prelude.{◌≡◌, ◌≤◌, ◌<◌, ◌+◌, ◌^◌, List, ℕ, IfOk};
+ghost use Rattle.refusals.specs.Refusal.{code_in};
+ghost use Rattle.house.specs.Commands.{transfer, code_of, with_primary};
 ghost use Rattle.house.specs.View.{view};
-ghost use Rattle.house.specs.Parts.{Comes, Carried};
+ghost use Rattle.house.specs.Parts.{Comes, Carried, host_answer};
 
-use house::answer::{Outcome, accepted, refused};
+use house::answer::Receipt;
 use house::state::House;
+use prizes::jackpot::Jackpot;
+use refusals::refusal::Refusal;
 
-fn is_jackpot(jackpot: u8) -> bool
-    ensures { result ≡ (eqb jackpot 6 || eqb jackpot 8) }
-{
-    jackpot == 6 || jackpot == 8
-}
-
-// The refusal of a transfer, or 0.
-fn transfer_code(house: House, jackpot: u8, cents: u64) -> u8
-    ensures { (words marks : List ℕ) → result ≡ code_of (view house words marks) (transfer jackpot cents) }
+// The first rule of Transfer that is broken, if any is.
+#[tactic(auto, using(crate::proofs::TransferLaws::transfer_code, std::proofs::lemmas::Bool::Decides::nat_tests))]
+fn check_transfer(house: House, jackpot: u8, cents: u64) -> Result<(), Refusal>
+    ensures code { (words marks : List ℕ) → code_in result ≡ code_of (view house words marks) (transfer jackpot cents) }
+    ensures covered { IfOk result (λ _. cents ≤ house.counters.unclaimed) }
 {
     if house.day == 0 {
-        return 4;
+        return Err(Refusal::NotOpen);
     }
-    if !is_jackpot(jackpot) {
-        return 28;
+    if !matches!(jackpot, 6 | 8) {
+        return Err(Refusal::UnknownJackpot);
     }
     if house.drawn != 0 {
-        return 6;
+        return Err(Refusal::Drawing);
     }
-    if cents == 0 {
-        return 29;
+    if cents == 0 || house.counters.unclaimed < cents {
+        return Err(Refusal::UnfitCents);
     }
-    if house.counters.unclaimed < cents {
-        return 29;
-    }
-    0
+    Ok(())
+}
+
+// Puts cents into a primary: how many are in it then.
+fn add_to_primary(pools: &mut Jackpot, cents: u64) -> u64
+    requires { pools.old.primary + cents < 2 ^ 64 }
+    ensures pools { pools.new ≡ with_primary pools.old (pools.old.primary + cents) }
+    ensures primary { result ≡ pools.old.primary + cents }
+{
+    pools.primary += cents;
+    pools.primary
 }
 
 // Moves cents of the unclaimed prizes into the primary of a jackpot.
-pub fn transfer_cents(house: House, jackpot: u8, cents: u32) -> Outcome
-    requires { Comes house }
-    ensures { (words marks : List ℕ) → Carried house words marks (transfer jackpot cents) result.house words marks result.answer }
+pub fn transfer_cents(house: &mut House, jackpot: u8, cents: u32) -> Result<Receipt, Refusal>
+    requires { Comes house.old }
+    ensures { (words marks : List ℕ) → Carried house.old words marks (transfer jackpot cents) house.new words marks (host_answer result) }
 {
-    let money = cents as u64;
-    let code = transfer_code(house, jackpot, money);
-    if code != 0 {
-        return refused(house, code);
-    }
-    let mut next = house;
-    let unclaimed = next.counters.unclaimed - money;
-    next.counters.unclaimed = unclaimed;
-    if jackpot == 6 {
-        let primary = next.six.primary + money;
-        next.six.primary = primary;
-        return accepted(next, jackpot as u32, primary);
-    }
-    let primary = next.eight.primary + money;
-    next.eight.primary = primary;
-    accepted(next, jackpot as u32, primary)
+    let money = u64::from(cents);
+    check_transfer(*house, jackpot, money)?;
+    let mut next = *house;
+    next.counters.unclaimed -= money;
+    let primary = match jackpot {
+        6 => add_to_primary(&mut next.six, money),
+        _ => add_to_primary(&mut next.eight, money),
+    };
+    *house = next;
+    Ok(Receipt {
+        number: u32::from(jackpot),
+        cents: primary,
+    })
 }

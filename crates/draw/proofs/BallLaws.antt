@@ -1,61 +1,58 @@
 -- Laws of the command Ball: the balls in as a list, what the command does before and at the twentieth, and the room that a settled game leaves
 -- in every figure, since the house after it is reached too.
-use Prim.Native.Nat.{ℕ, zero, suc, ◌+◌, ◌≤◌, ◌<◌, ◌^◌}
+use Prim.Native.Nat.{ℕ, ◌+◌, ◌≤◌, ◌<◌, ◌^◌}
 use mathlib.Core.Path.{◌≡◌, refl, sym, ap, ap₂, ◌∙◌, subst}
-use mathlib.Core.Bool.{true, false}
-use mathlib.Core.Logic.{⊎_elim}
-use mathlib.Core.List.{List, [], ◌∷◌, ◌++◌, map, map-append}
-use native.Mathlib.Nat.{not-suc-le-zero, le_of_suc-le-suc, eq-or-lt_of_le}
+use mathlib.Core.Bool.{true, false, cond, not, ◌&&◌, ◌||◌}
+use mathlib.Core.List.{List, [], ◌∷◌, ◌++◌, map}
 use native.Mathlib.Omega.{arith}
-use lib.Dec.{eqb}
-use lib.ListN.{length, get_or, set, length-map, length-append}
+use lib.Dec.{ltb, leb, eqb}
+use lib.ListN.{length, get_or, set, take, length-map, length-append}
 use lib.Seq.{get_or-set_same, get_or-set_other, take_all}
 use borrow.Author.Tests.{eq-eqb, ne_eqb}
+use Rattle.std.specs.List.{list_any}
+use Rattle.std.proofs.lemmas.Bool.Decides.{nat_tests}
 use Rattle.sale.specs.Lists.{sum, below, any, member}
+use Rattle.sale.specs.Checks.{first_met}
 use Rattle.prizes.specs.Hits.{draw_of}
 use Rattle.prizes.specs.declared.draw.Draw.{Draw}
-use Rattle.prizes.proofs.SettleLaws.{member_left, member_right, awards_count, awards_sum}
+use Rattle.prizes.proofs.SettleLaws.{awards_count, awards_sum}
 use Rattle.house.specs.Tickets.{Ticket, entry_of}
-use Rattle.house.specs.Model.{Model, with_money, with_seeds, with_gained, with_lost}
-use Rattle.house.specs.Commands.{ball, replies, code_of, balls_with, settles, running_in, settled_by, settlement, stakes_drawn, finished_on, awarded, game_ended, game_settled, ball_entered, act, reply, step}
+use Rattle.house.specs.Model.{Model, game_limit, with_money, with_seeds, with_gained, with_lost}
+use Rattle.house.specs.Commands.{ball, replies, rows_of, code_of, balls_with, settles, running_in, settled_by, settlement, stakes_drawn, finished_on, awarded, game_ended, game_settled, ball_entered, act, reply, step}
 use Rattle.house.specs.Balance.{Reached}
 use Rattle.house.specs.Till.{till_of}
 use Rattle.house.specs.View.{view}
 use Rattle.house.specs.declared.state.House.{House}
-use Rattle.house.proofs.Refusals.{or_false}
 use Rattle.house.proofs.MoneyLaws.{sum_unmoved}
 use Rattle.house.proofs.SheetFigures.{live_owed, finished_due, awarded_owed}
 use Rattle.house.proofs.Reliance.{twentieth_settles}
 use Rattle.house.proofs.Theorem.{reached_step}
 use Rattle.house.proofs.ReachedHouses.{Sure, reached_sure}
+use Rattle.house.proofs.ViewLaws.{balls_count}
 use Rattle.settlement.specs.Settling.{SettledAs}
 use Rattle.settlement.specs.declared.settle.Settlement.{Settlement}
 use Rattle.settlement.proofs.TablePlaces.{table_more, tables_alike, table_of}
-use Rattle.draw.specs.Closing.{counters_settled, house_settled}
+use Rattle.draw.specs.Closing.{CompletesDraw, counters_settled, house_settled}
 
 -- ---- the balls in
 
-module _ (n : ℕ) where
-  pub member_later : (xs : List ℕ) (x : ℕ) → member n xs ≡ false → (n ≡ x → ⊥) → member n (xs ++ (x ∷ [])) ≡ false
-  unfolding member any
-  member_later [] x none new = rw (ne_eqb n x new)
-  member_later (y ∷ ys) x none new =
-      let parts = or_false (eqb n y) (any (eqb n) ys) none in
-      rw parts.0 (member_later ys x parts.1 new)
+-- whether a number is among them, as a search of the code answers it
+list_any_member : (n : ℕ) (xs : List ℕ) → list_any (λ x. eqb x n) xs ≡ member n xs
+unfolding member any
+list_any_member n [] = refl
+list_any_member n (x ∷ xs) = ap₂ (λ p q. p || q) (eqb_turned x n) (list_any_member n xs)
+  where
+    eqb_turned : (x n : ℕ) → eqb x n ≡ eqb n x
+    eqb_turned x n = grind (arith, nat_tests)
 
-  member_here : (x : ℕ) → n ≡ x → member n (x ∷ []) ≡ true
-  unfolding member any
-  member_here x e = rw (eq-eqb n x e)
-
-  pub member_table : (f : ℕ → ℕ) (k i : ℕ) → i < k → n ≡ f i → member n (map f (below k)) ≡ true
-  unfolding below
-  member_table f zero i h e = absurd (not-suc-le-zero h)
-  member_table f (suc k) i h e =
-      ap (member n) (map-append f (below k) (k ∷ []))
-      ∙ ⊎_elim
-      (λ same. member_right n (map f (below k)) (f k ∷ []) (member_here (f k) (e ∙ ap f same)))
-      (λ less. member_left n (map f (below k)) (f k ∷ []) (member_table f k i less e))
-      (eq-or-lt_of_le (le_of_suc-le-suc h))
+-- Ball's table by tests on the struct
+pub ball_code :
+    (h : House) (words marks : List ℕ) (b : ℕ)
+    → h.drawn ≤ length h.balls
+    → code_of (view h words marks) (ball b)
+    ≡ cond (eqb h.day 0) 4 (cond (not (leb 1 b && leb b 80)) 25 (cond (ltb game_limit h.game) 26 (cond (list_any (λ x. eqb x b) (take h.drawn h.balls)) 27 0)))
+unfolding code_of rows_of first_met view
+ball_code h words marks b within = rw (table_of h.balls h.drawn within, ← list_any_member b (take h.drawn h.balls))
 
 pub balls_more : (balls : List ℕ) (drawn x : ℕ) → drawn < length balls
     → map (λ i. get_or (set balls drawn x) i 0) (below (drawn + 1)) ≡ map (λ i. get_or balls i 0) (below drawn) ++ (x ∷ [])
@@ -148,16 +145,27 @@ whole_draw found balls drawn twenty nineteen e =
     ∙ e)
 
 -- a reached house has nineteen balls in at the most
-pub balls_few : (m : Model) → Reached m → length m.balls ≤ 19
-balls_few m reached = (reached_sure m reached).balls
+pub drawn_few : (h : House) (words marks : List ℕ) → Reached (view h words marks) → h.drawn ≤ 19
+drawn_few h words marks reached =
+    omega (arith, (reached_sure (view h words marks) reached).balls, balls_count h words marks)
 
--- and where there are nineteen, twenty with the ball are the draw that it completes
-pub twenty_drawn : (h : House) (words marks found : List ℕ) (b : ℕ)
+-- and where there are no fewer, twenty with an accepted ball are the draw that it completes
+pub completes :
+    (h : House) (words marks : List ℕ) (b : ℕ) (found : List ℕ) (draw : Draw)
+    → Reached (view h words marks)
+    → 19 ≤ h.drawn
+    → 0 ≡ code_of (view h words marks) (ball b)
     → length found ≡ 20
-    → h.drawn ≡ 19
     → map (λ i. get_or found i 0) (below (h.drawn + 1)) ≡ balls_with b (view h words marks)
-    → draw_of found ≡ draw_of (balls_with b (view h words marks))
-twenty_drawn h words marks found b twenty nineteen e = whole_draw found (balls_with b (view h words marks)) h.drawn twenty nineteen e
+    → draw ≡ draw_of found
+    → CompletesDraw (view h words marks) b draw
+completes h words marks b found draw reached last coded twenty in_now e =
+    let nineteen : h.drawn ≡ 19 = omega (arith, drawn_few h words marks reached) in
+    record {
+      accepted = sym coded;
+      last = balls_count h words marks ∙ nineteen;
+      draw' = e ∙ whole_draw found (balls_with b (view h words marks)) h.drawn twenty nineteen in_now;
+    }
 
 -- what the twentieth ball answers, by the draw that it completes
 pub settled_reply : (m : Model) (b : ℕ)

@@ -53,14 +53,6 @@ unfolding games_left
 paid_live day game cents t = finished_on_keeps (is_live game) (λ u d. refl) day game (with_due t (t.due + cents))
 
 module _ (day game cents : ℕ) (t : Ticket) where
-  pub paid_stays : (cents ≡ 0 → ⊥) → false ≡ not (is_live game (paid_ticket day game cents t))
-  paid_stays some =
-      rw (
-        paid_live day game cents t,
-        ne_eqb (t.due + cents) 0 (λ none. some (omega arith)),
-        and_off (is_finished game (with_due t (t.due + cents))),
-      )
-
   pub unpaid_alike : cents ≡ 0 → not (is_live game t) ≡ not (is_live game (paid_ticket day game cents t))
   unpaid_alike none = ap (λ u. not (is_live game u)) (sym (due_same day game cents t none)) ∙ ap not (sym (paid_live day game cents t))
 

@@ -11,66 +11,63 @@ use house::rows::{Row, change_ticket, move_ticket, read_row};
 use house::state::House;
 use house::ticket::{finished_on, is_closed, is_finished};
 
-// A ticket with what it is paid, and its finishing day where no game is left.
-fn paid_row(mut row: Row, day: u64, game: u64, cents: u64) -> Row
-    requires { row.due + cents < 2 ^ 64 }
-    ensures { (m : List ℕ) → ticket_from result m ≡ paid_ticket day game cents (ticket_from row m) }
-{
-    let due = row.due + cents;
-    row.due = due;
-    finished_on(day, game, row)
+// What the end of a game brings a ticket: the cents that it is paid, the day, and the game that is current now.
+#[derive(Clone, Copy)]
+struct Payment {
+    day: u64,
+    game: u64,
+    cents: u64,
 }
 
-// Whether a ticket closes with what it is paid: one that is paid nothing closes if it is finished with nothing due, and any other stays. What is
-// paid is tested first, so that no row has to be read for those.
-fn closes(row: Row, game: u64, cents: u64) -> bool
-    ensures { (day : ℕ) (m : List ℕ) → result ≡ not (is_live game (paid_ticket day game cents (ticket_from row m))) }
-{
-    if cents != 0 {
-        return false;
+impl Payment {
+    // A ticket with what it is paid, and its finishing day where no game is left.
+    fn paid(self, mut row: Row) -> Row
+        requires { row.due + self.cents < 2 ^ 64 }
+        ensures { (m : List ℕ) → ticket_from result m ≡ paid_ticket self.day self.game self.cents (ticket_from row m) }
+    {
+        row.due += self.cents;
+        finished_on(self.day, self.game, row)
     }
-    is_closed(game, row)
+
+    // Whether a ticket closes with what it is paid: one that is paid nothing closes if it is finished with nothing due, and any other stays. What is
+    // paid is tested first, so that no row has to be read for those.
+    fn closes(self, row: Row) -> bool
+        ensures { (m : List ℕ) → result ≡ not (is_live self.game (paid_ticket self.day self.game self.cents (ticket_from row m))) }
+    {
+        self.cents == 0 && is_closed(self.game, row)
+    }
+
+    // Whether a ticket is the same with what it is paid: nothing, and it has a game left or its finishing day already.
+    fn is_nothing(self, row: Row) -> bool
+        ensures { result ≡ true → (m : List ℕ) → paid_ticket self.day self.game self.cents (ticket_from row m) ≡ ticket_from row m }
+    {
+        self.cents == 0 && (row.finished != 0 || !is_finished(self.game, row))
+    }
 }
 
-// Whether a ticket is the same with what it is paid: nothing, and it has a game left or its finishing day already.
-fn is_same(row: Row, game: u64, cents: u64) -> bool
-    ensures { result ≡ true → (day : ℕ) (m : List ℕ) → paid_ticket day game cents (ticket_from row m) ≡ ticket_from row m }
-{
-    if cents != 0 {
-        return false;
-    }
-    if row.finished != 0 {
-        return true;
-    }
-    !is_finished(game, row)
-}
-
-// The ticket at a place, where the given game is current now: it closes, or stays and stands behind the `left` tickets before it that stay.
-// How many stay with it.
+// The ticket at a place: it closes, or stays and stands behind the `left` tickets before it that stay. How many stay with it.
 fn close_ticket(
     rows: &mut [u64; 3200],
     marks: &mut [u8; 16000],
     i: usize,
     left: usize,
-    day: u64,
-    game: u64,
-    cents: u64,
+    payment: Payment,
 ) -> usize
-    requires { (left ≤ i) × (i < 200) × ((row_at rows.old i).due + cents < 2 ^ 64) }
+    requires { (left ≤ i) × (i < 200) × ((row_at rows.old i).due + payment.cents < 2 ^ 64) }
     ensures count { result ≤ left + 1 }
-    ensures stay { take result (tickets_of rows.new marks.new) ≡ take left (tickets_of rows.old marks.old) ++ still_live game (paid_ticket day game cents (ticket_in rows.old marks.old i) ∷ []) }
+    ensures stay { take result (tickets_of rows.new marks.new) ≡ take left (tickets_of rows.old marks.old) ++ still_live payment.game (paid_ticket payment.day payment.game payment.cents (ticket_in rows.old marks.old i) ∷ []) }
     ensures rest { drop (i + 1) (tickets_of rows.new marks.new) ≡ drop (i + 1) (tickets_of rows.old marks.old) }
 {
     let row = read_row(rows, i);
-    if closes(row, game, cents) {
+    if payment.closes(row) {
         return left;
     }
     move_ticket(rows, marks, i, left);
     let moved = read_row(rows, left);
-    if is_same(moved, game, cents) {
+    if payment.is_nothing(moved) {
         return left + 1;
     }
-    change_ticket(rows, left, paid_row(moved, day, game, cents));
+    change_ticket(rows, left, payment.paid(moved));
     left + 1
 }
 
@@ -89,13 +86,14 @@ fn close_tickets(
 {
     let day = house.day;
     let game = house.game + 1;
-    let live = house.live as usize;
     let mut left = 0;
-    let mut i = 0;
-    while i < live {
-        let now_left = close_ticket(rows, marks, i, left, day, game, awards[i]);
-        left = now_left;
-        i += 1;
+    for i in 0..house.live as usize {
+        let payment = Payment {
+            day,
+            game,
+            cents: awards[i],
+        };
+        left = close_ticket(rows, marks, i, left, payment);
     }
     left
 }
@@ -113,20 +111,10 @@ pub(crate) fn end_game(
         → view result rows.new marks.new ≡ game_ended figures (view house rows.old marks.old) }
 {
     let left = close_tickets(house, rows, marks, awards);
-    let next = house.game + 1;
-    let balls = house.balls;
-    let six = house.six;
-    let eight = house.eight;
-    let counters = house.counters;
     House {
-        day: house.day,
-        game: next,
-        balls,
+        game: house.game + 1,
         drawn: 0,
-        issued: house.issued,
         live: left as u64,
-        six,
-        eight,
-        counters,
+        ..house
     }
 }

@@ -2,11 +2,11 @@
 ghost use Rattle.std.specs.Prelude.{◌≡◌, ℕ};
 ghost use Rattle.house.specs.Commands.{ball};
 ghost use Rattle.house.specs.View.{view};
-ghost use Rattle.house.specs.Parts.{Carried};
+ghost use Rattle.house.specs.Parts.{Carried, host_answer};
 ghost use Rattle.draw.specs.Closing.{house_settled, RoomyCounters, CompletesDraw, CompletedDraw};
 
 use crate::game_end::end_game;
-use house::answer::{Outcome, accepted};
+use house::answer::Receipt;
 use house::state::{Counters, House};
 use prizes::draw::Draw;
 use settlement::settle::{Settlement, settle};
@@ -16,49 +16,36 @@ fn with_settlement(house: House, settlement: Settlement) -> House
     requires { RoomyCounters (house_settled house settlement).counters }
     ensures { result ≡ house_settled house settlement }
 {
-    let balls = house.balls;
     let six = settlement.six;
     let eight = settlement.eight;
-    let six_after = six.after;
-    let eight_after = eight.after;
+    let counters = house.counters;
     House {
-        day: house.day,
-        game: house.game,
-        balls,
-        drawn: house.drawn,
-        issued: house.issued,
-        live: house.live,
-        six: six_after,
-        eight: eight_after,
+        six: six.after,
+        eight: eight.after,
         counters: Counters {
-            taken: house.counters.taken,
-            seeds: house.counters.seeds + (six.seed + eight.seed),
-            paid: house.counters.paid,
-            refunded: house.counters.refunded,
-            unclaimed: house.counters.unclaimed,
-            gained: house.counters.gained + settlement.stakes + (six.repaid + eight.repaid),
-            lost: house.counters.lost
-                + (six.contributions + eight.contributions)
-                + settlement.prizes,
+            seeds: counters.seeds + (six.seed + eight.seed),
+            gained: counters.gained + settlement.stakes + (six.repaid + eight.repaid),
+            lost: counters.lost + (six.contributions + eight.contributions) + settlement.prizes,
+            ..counters
         },
+        ..house
     }
 }
 
 // Settles the current game by the draw that its twentieth ball completes.
 pub(crate) fn settle_game(
-    house: House,
+    house: &mut House,
     rows: &mut [u64; 3200],
     marks: &mut [u8; 16000],
     draw: Draw,
-) -> Outcome
-    requires { CompletedDraw (view house rows.old marks.old) draw }
-    ensures { (number : ℕ) → CompletesDraw (view house rows.old marks.old) number draw → Carried house rows.old marks.old (ball number) result.house rows.new marks.new result.answer }
+) -> Receipt
+    requires { CompletedDraw (view house.old rows.old marks.old) draw }
+    ensures { (number : ℕ) → CompletesDraw (view house.old rows.old marks.old) number draw → Carried house.old rows.old marks.old (ball number) house.new rows.new marks.new (host_answer (Ok result)) }
 {
     let mut awards = [0u64; 200];
-    let settlement = settle(house, rows, marks, draw, &mut awards);
-    let six = settlement.six;
-    let eight = settlement.eight;
-    let cents = settlement.prizes + (six.shares + eight.shares);
-    let ended = end_game(house, rows, marks, &awards);
-    accepted(with_settlement(ended, settlement), 20, cents)
+    let settlement = settle(*house, rows, marks, draw, &mut awards);
+    let cents = settlement.prizes + (settlement.six.shares + settlement.eight.shares);
+    let ended = end_game(*house, rows, marks, &awards);
+    *house = with_settlement(ended, settlement);
+    Receipt { number: 20, cents }
 }

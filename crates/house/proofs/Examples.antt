@@ -11,8 +11,7 @@ use Rattle.sale.specs.Ways.{mark_of, size_of, by_group, nominated, ways, mask_su
 use Rattle.prizes.specs.Hits.{last_of, hits_of}
 use Rattle.sale.specs.Price.{paid_games, minimum_stake, stake_fits, game_price, charge}
 use Rattle.sale.specs.Checks.{first_met, marks_fit, operand_rows}
-use Rattle.sale.specs.declared.terms.Feature.{Feature}
-use Rattle.sale.specs.declared.terms.Feature.TheVariants.{Absent, LuckyLast}
+use Rattle.std.specs.Prelude.{Option, None, Some}
 use Rattle.prizes.specs.Schedules.{standard_rows, cell}
 use Rattle.prizes.specs.Prize.{dollars, prize}
 use Rattle.prizes.specs.Cut.{floor_count, cut_base, joins, round_of, rounds, floored_of, cut_prize, payout}
@@ -26,12 +25,12 @@ use Rattle.house.specs.Commands.{changed, Command, open', sell, ball, claim, exp
 use Rattle.house.specs.Balance.{run, answer_after, next, run_from}
 
 -- a ticket of one way on the first numbers, with a feature or without one
-abbrev entered : Feature → ℕ → ℕ → ℕ → ℕ → Command
+abbrev entered : Option ℕ → ℕ → ℕ → ℕ → ℕ → Command
 entered feature kind size games stake =
     sell (record { kind = kind; games = games; stake = stake; groups = 1; types = 1; feature = feature; marks = replicate size 1 ++ replicate (80 - size) 0 })
 
 abbrev first : ℕ → ℕ → ℕ → ℕ → Command
-first = entered Absent
+first = entered None
 
 -- the first game, on the given day, with some tickets, and the numbers from the given one on drawn
 abbrev game_on : ℕ → ℕ → List Command → List Command
@@ -45,7 +44,7 @@ charge_of_games stake games = (answer_after (open' 1 ∷ []) (first 0 1 games st
 
 -- Lucky Last on number 1 at $1, with $1 on the feature, and a game in which number 1 comes last or nineteenth
 abbrev lucky : ℕ → Command
-lucky games = entered (LuckyLast 100) 0 1 games 100
+lucky games = entered (Some 100) 0 1 games 100
 
 abbrev lucky_charge : ℕ → ℕ
 lucky_charge games = (answer_after (open' 1 ∷ []) (lucky games)).cents

@@ -1,6 +1,6 @@
 -- The lent buffers as lists of tickets: what a row or a ticket's marks written to a buffer make of the list, and what a number, a change and a
 -- removal are in it. A row and its marks are runs of stores, so each law reads them back by index.
-use Prim.Native.Nat.{ℕ, zero, suc, ◌+◌, ◌-◌, ◌*◌, ◌≤◌, ◌<◌, suc-le-suc}
+use Prim.Native.Nat.{ℕ, zero, suc, ◌+◌, ◌-◌, ◌*◌, ◌/◌, ◌≤◌, ◌<◌, suc-le-suc}
 use mathlib.Core.Path.{◌≡◌, refl, sym, ap, ap₂, ◌∙◌, subst, subst⁻¹}
 use mathlib.Core.Logic.{⊎_elim}
 use mathlib.Core.Bool.{Bool, true, false, cond, ◌||◌}
@@ -8,20 +8,26 @@ use mathlib.Core.List.{List, [], ◌∷◌, ◌++◌, map, append_assoc}
 use native.Mathlib.Nat.{add-zero, zero-add, not-suc-le-zero, le_of_suc-le-suc}
 use native.Mathlib.Numerals.{add-one}
 use native.Mathlib.Omega.{arith}
-use borrow.Author.Tests.{lt-ltb, eq-eqb, ne_eqb, eqb-true}
+use borrow.Author.Tests.{tests, lt-ltb, eq-eqb, ne_eqb, eqb-true}
 use lib.Dec.{lit<, eqb, ltb, leb-suc-suc}
 use lib.ListN.{length, get_or, set, take, drop, length-set, length-map, length-take, length-drop}
 use lib.Seq.{sets, sets-eq, length-sets, set-set, get_or-set_same, get_or-set_other, get_or-take, get_or-drop, ext_get_or, take-set-lt, take-suc-set, length-take-le, take_at, drop_at, set_split}
+use Rattle.std.specs.List.{HoldsAt}
+use Rattle.std.specs.List.Sorted.{IsNonDecreasingBy, IsPartitionPoint}
+use Rattle.std.specs.Ordering.{nat_cmp, ordering_index}
+use Rattle.std.proofs.lemmas.Cmp.{ranked}
+use Rattle.std.specs.declared.cmp.Ordering.TheVariants.{Less, Equal, Greater}
+use Rattle.std.specs.Simd.{first_chunks}
+use Rattle.std.proofs.lemmas.Map.Lookups.{exact_unsigned}
 use Rattle.sale.specs.Lists.{keep, any}
 use Rattle.sale.specs.Checks.{has_feature, feature_stake}
-use Rattle.sale.specs.declared.terms.Feature.{Feature}
-use Rattle.sale.specs.declared.terms.Feature.TheVariants.{Absent, LuckyLast}
+use Rattle.std.specs.Prelude.{Option, None, Some}
 use Rattle.house.specs.Tickets.{Ticket, is_live}
 use Rattle.house.specs.Commands.{blank_ticket, ticket_at, has_ticket, changed, still_live}
-use Rattle.house.specs.View.{row_of, put_row, marks_at, put_marks, feature_from, ticket_from, ticket_in, tickets_of, place_of, RisingRows, without, shifted}
+use Rattle.house.specs.View.{row_of, words_of, put_row, marks_at, put_marks, feature_from, ticket_from, ticket_in, tickets_of, place_of, RisingRows, without}
 use Rattle.house.specs.declared.rows.Row.{Row}
 use Rattle.house.proofs.Ledger.{All}
-use Rattle.house.proofs.RowLists.{get_or_sets_before, get_or_sets_after, get_or_sets_at, sets_more, length_table, get_or_table, get_or_map, equal_or_not, earlier_or_not, length_without, without_before, without_behind, length_shifted, shifted_before, shifted_within}
+use Rattle.house.proofs.RowLists.{get_or_sets_before, get_or_sets_after, get_or_sets_at, length_table, get_or_table, get_or_map, equal_or_not, earlier_or_not, length_without, without_before, without_behind, length_chunks, chunk_at, ClosedUp}
 
 -- ---- the tickets of two buffers
 
@@ -36,7 +42,7 @@ module _ (words marks : List ℕ) where
 
 -- two pairs of buffers have the same tickets but for one
 tickets_set : (words marks words' marks' : List ℕ) (i : ℕ) (t : Ticket) → i < 200 → ticket_in words' marks' i ≡ t
-    → ((j : ℕ) → (j ≡ i → ⊥) → ticket_in words' marks' j ≡ ticket_in words marks j)
+    → ((j : ℕ) → j < 200 → (j ≡ i → ⊥) → ticket_in words' marks' j ≡ ticket_in words marks j)
     → tickets_of words' marks' ≡ set (tickets_of words marks) i t
 tickets_set words marks words' marks' i t h e others =
     let long : length (tickets_of words marks) ≡ 200 = tickets_length words marks in
@@ -45,7 +51,7 @@ tickets_set words marks words' marks' i t h e others =
     λ j p. subst⁻¹ (λ j. get_or (tickets_of words' marks') j blank_ticket ≡ get_or (set (tickets_of words marks) i t) j blank_ticket) p
     (tickets_at words' marks' i h ∙ e ∙ sym (get_or-set_same (tickets_of words marks) i t blank_ticket (omega arith))) in
     let other : (j : ℕ) → j < 200 → (j ≡ i → ⊥) → get_or (tickets_of words' marks') j blank_ticket ≡ get_or (set (tickets_of words marks) i t) j blank_ticket =
-    λ j b n. tickets_at words' marks' j b ∙ others j n ∙ sym (tickets_at words marks j b) ∙ sym (get_or-set_other (tickets_of words marks) i j t blank_ticket n) in
+    λ j b n. tickets_at words' marks' j b ∙ others j b n ∙ sym (tickets_at words marks j b) ∙ sym (get_or-set_other (tickets_of words marks) i j t blank_ticket n) in
     ext_get_or blank_ticket (tickets_of words' marks') (set (tickets_of words marks) i t)
     (simp length-set (omega arith))
     (λ j b. ⊎_elim (same j) (other j (omega arith)) (equal_or_not j i))
@@ -56,20 +62,16 @@ tickets_set words marks words' marks' i t h e others =
 pub row_feature : (stake : ℕ) → feature_stake (feature_from stake) ≡ stake
 row_feature stake = go (eqb stake 0) refl
   where
-    go : (none : Bool) → eqb stake 0 ≡ none → feature_stake (cond none Absent (LuckyLast stake)) ≡ stake
+    go : (none : Bool) → eqb stake 0 ≡ none → feature_stake (cond none None (Some stake)) ≡ stake
     go true same = sym (eqb-true stake 0 same)
     go false other = refl
 
 -- and a feature that is entered with a stake is read back from it
-pub feature_kept : (f : Feature) → (has_feature f ≡ true → feature_stake f ≡ 0 → ⊥) → feature_from (feature_stake f) ≡ f
-feature_kept Absent staked = refl
-feature_kept (LuckyLast stake) staked = rw (ne_eqb stake 0 (staked refl))
+pub feature_kept : (f : Option ℕ) → (has_feature f ≡ true → feature_stake f ≡ 0 → ⊥) → feature_from (feature_stake f) ≡ f
+feature_kept None staked = refl
+feature_kept (Some stake) staked = rw (ne_eqb stake 0 (staked refl))
 
 -- ---- a row written to its place
-
-abbrev words_of : Row → List ℕ
-words_of w =
-    w.number ∷ w.kind ∷ w.games ∷ w.stake ∷ w.groups ∷ w.types ∷ w.ways ∷ w.jackpot ∷ w.sold ∷ w.first ∷ w.stop ∷ w.free ∷ w.due ∷ w.finished ∷ w.sizes ∷ w.feature ∷ []
 
 -- rows that agree word by word
 row_from : (words words' : List ℕ) (at at' : ℕ) → ((k : ℕ) → k < 16 → get_or words (at + k) 0 ≡ get_or words' (at' + k) 0)
@@ -126,7 +128,28 @@ module _ (words : List ℕ) (long : length words ≡ 3200) (i : ℕ) (h : i < 20
     tickets_put_row marks =
         tickets_set words marks (put_row words (i * 16) w) marks i (ticket_from w (marks_at marks i)) h
         (ap (λ r. ticket_from r (marks_at marks i)) row_of_put)
-        (λ j n. ap (λ r. ticket_from r (marks_at marks j)) (row_beside_put j n))
+        (λ j _ n. ap (λ r. ticket_from r (marks_at marks j)) (row_beside_put j n))
+
+-- ---- a row read at its place
+
+-- the chunks of 16 words are the rows
+module _ (words : List ℕ) (long : length words ≡ 3200) (chunks : List (List ℕ)) (front : chunks ≡ first_chunks 16 (length words / 16) words) where
+  all_chunks : chunks ≡ first_chunks 16 200 words
+  all_chunks = front ∙ ap (λ n. first_chunks 16 (n / 16) words) long
+
+  live_rows : (live : ℕ) → live ≤ 200 → length (take live chunks) ≡ live
+  live_rows live few =
+      length-take-le live chunks (omega (arith, ap length all_chunks, length_chunks 16 200 words))
+
+  word_at : (i : ℕ) → i < 200 → (d : List ℕ) (k : ℕ) → k < 16 → get_or (get_or chunks i d) k 0 ≡ get_or words (i * 16 + k) 0
+  word_at i h d k b =
+      ap (λ l. get_or (get_or l i d) k 0) all_chunks
+      ∙ ap (λ l. get_or l k 0) (chunk_at 16 200 i words d h)
+      ∙ get_or-take 16 (drop (i * 16) words) k 0 b
+      ∙ get_or-drop (i * 16) words k 0
+
+  pub row_read : (i : ℕ) → i < 200 → row_of (get_or chunks i []) 0 ≡ row_of words (i * 16)
+  row_read i h = row_from (get_or chunks i []) words 0 (i * 16) (λ k b. ap (λ n. get_or (get_or chunks i []) n 0) (zero-add k) ∙ word_at i h [] k b)
 
 -- ---- a ticket's marks written to their place
 
@@ -165,7 +188,7 @@ module _ (marks : List ℕ) (long : length marks ≡ 16000) (i : ℕ) (h : i < 2
   tickets_put_marks words =
       tickets_set words marks words (put_marks marks i these) i (ticket_from (row_of words (i * 16)) these) h
       (ap (ticket_from (row_of words (i * 16))) marks_at_put)
-      (λ j n. ap (ticket_from (row_of words (j * 16))) (marks_beside_put j n))
+      (λ j _ n. ap (ticket_from (row_of words (j * 16))) (marks_beside_put j n))
 
 -- both at once
 pub tickets_put : (words marks : List ℕ) → length words ≡ 3200 → length marks ≡ 16000 → (i : ℕ) → i < 200 → (w : Row) (these : List ℕ) → length these ≡ 80
@@ -180,29 +203,9 @@ pub length_marks_at : (marks : List ℕ) → length marks ≡ 16000 → (i : ℕ
 unfolding marks_at
 length_marks_at marks long i h = length-take-le 80 (drop (i * 80) marks) (simp length-drop (omega arith))
 
--- a ticket with its marks in the place of another
-pub tickets_move : (words marks : List ℕ) → length words ≡ 3200 → length marks ≡ 16000 → (source to : ℕ) → source < 200 → to < 200
-    → tickets_of (put_row words (to * 16) (row_of words (source * 16))) (put_marks marks to (marks_at marks source))
-    ≡ set (tickets_of words marks) to (get_or (tickets_of words marks) source blank_ticket)
-tickets_move words marks long long' source to h h' =
-    tickets_put words marks long long' to h' (row_of words (source * 16)) (marks_at marks source) (length_marks_at marks long' source h)
-    ∙ ap (set (tickets_of words marks) to) (sym (tickets_at words marks source h))
-
 mark_at : (marks : List ℕ) (i k : ℕ) → k < 80 → get_or marks (i * 80 + k) 0 ≡ get_or (marks_at marks i) k 0
 unfolding marks_at
 mark_at marks i k b = sym (get_or-drop (i * 80) marks k 0) ∙ sym (get_or-take 80 (drop (i * 80) marks) k 0 b)
-
--- one mark more of a ticket's in the place of an earlier ticket's
-pub marks_move : (marks : List ℕ) → length marks ≡ 16000 → (source to k : ℕ) → to < source → source < 200 → k < 80
-    → set (sets marks (to * 80) (take k (marks_at marks source))) (to * 80 + k) (get_or (sets marks (to * 80) (take k (marks_at marks source))) (source * 80 + k) 0)
-    ≡ sets marks (to * 80) (take (k + 1) (marks_at marks source))
-marks_move marks long source to k h h' b =
-    let these : List ℕ = marks_at marks source in
-    let eighty : length (marks_at marks source) ≡ 80 = length_marks_at marks long source h' in
-    ap (set (sets marks (to * 80) (take k these)) (to * 80 + k))
-    (get_or_sets_after (take k these) marks (to * 80) (source * 80 + k) 0 (omega (arith, length-take-le k (marks_at marks source) (omega arith)))
-    ∙ mark_at marks source k b)
-    ∙ sets_more these marks (to * 80) k 0 (omega arith)
 
 -- ---- a number among tickets
 
@@ -281,21 +284,46 @@ module _ (words marks : List ℕ) (live : ℕ) (h : live ≤ 200) where
         (λ j l q. none j (omega (arith, live_length)) (ap (λ t. t.number) (sym (live_at j (omega (arith, live_length)))) ∙ q))
         ∙ live_length
 
--- in the search by halves, the number in the middle settles all on one side of it
-module _ (words : List ℕ) (live : ℕ) (rows : RisingRows words live) (n middle : ℕ) (h : middle < live) where
-  pub before_more : get_or words (middle * 16) 0 < n → (k : ℕ) → k < middle + 1 → get_or words (k * 16) 0 < n
-  before_more low k b =
-      ⊎_elim
-      (λ e. subst⁻¹ (λ k. get_or words (k * 16) 0 < n) e low)
-      (λ e. omega (arith, rows.rising k middle (omega arith) h))
-      (equal_or_not k middle)
+-- what a binary search by number answers, among live rows whose numbers rise
+module _ (words : List ℕ) (long : length words ≡ 3200) (chunks : List (List ℕ)) (front : chunks ≡ first_chunks 16 (length words / 16) words) (live n : ℕ) (rising : RisingRows words live) where
+  pub rows_live : length (take live chunks) ≡ live
+  rows_live = live_rows words long chunks front live rising.few
 
-  pub after_more : n ≤ get_or words (middle * 16) 0 → (k : ℕ) → middle ≤ k → k < live → n ≤ get_or words (k * 16) 0
-  after_more high k b c =
+  number_at : (k : ℕ) (d : List ℕ) → k < live → get_or (get_or (take live chunks) k d) 0 0 ≡ get_or words (k * 16) 0
+  number_at k d b =
+      ap (λ row. get_or row 0 0) (get_or-take live chunks k d b)
+      ∙ word_at words long chunks front k (omega (arith, rising.few)) d 0 (lit< tt)
+      ∙ ap (λ j. get_or words j 0) (add-zero (k * 16))
+
+  pub found_row : (marks : List ℕ) (place : ℕ) → place < length (take live chunks)
+      → HoldsAt (λ row. nat_cmp (get_or row 0 0) n ≡ Equal) (take live chunks) place
+      → place ≡ place_of n (take live (tickets_of words marks))
+  found_row marks place h same =
+      let inside : place < live = omega (arith, rows_live) in
+      let number : get_or words (place * 16) 0 ≡ n = sym (number_at place [] inside) ∙ exact_unsigned _ _ (same []) in
+      sym (place_of_row words marks live rising.few n place inside number (λ k b e. omega (arith, rising.rising k place b inside)))
+
+  number_rises : (a b : ℕ) (d : List ℕ) → a ≤ b → b < live → get_or (get_or (take live chunks) a d) 0 0 ≤ get_or (get_or (take live chunks) b d) 0 0
+  number_rises a b d le lt =
       ⊎_elim
-      (λ e. subst⁻¹ (λ k. n ≤ get_or words (k * 16) 0) e high)
-      (λ e. omega (arith, rows.rising middle k (omega arith) c))
-      (equal_or_not k middle)
+      (λ same. omega (arith, ap (λ k. get_or (get_or (take live chunks) k d) 0 0) same))
+      (λ other. omega (arith, number_at a d (omega arith), number_at b d lt, rising.rising a b (omega arith) lt))
+      (equal_or_not a b)
+
+  order_rises : (a b : ℕ) → a ≤ b → ordering_index (nat_cmp a n) ≤ ordering_index (nat_cmp b n)
+  order_rises a b le = grind (arith, tests)
+
+  pub missed_row : (marks : List ℕ) (place : ℕ)
+      → (IsNonDecreasingBy (λ row. ordering_index (nat_cmp (get_or row 0 0) n)) (take live chunks)
+      → IsPartitionPoint (λ row. nat_cmp (get_or row 0 0) n ≡ Less) (λ row. nat_cmp (get_or row 0 0) n ≡ Greater) (take live chunks) place)
+      → live ≡ place_of n (take live (tickets_of words marks))
+  missed_row marks place parted =
+      let sides = parted (λ a b d le lt. order_rises (get_or (get_or (take live chunks) a d) 0 0) (get_or (get_or (take live chunks) b d) 0 0) (number_rises a b d le (omega (arith, rows_live)))) in
+      sym (place_of_none words marks live rising.few n
+      (λ k b e. ⊎_elim
+      (λ early. omega (arith, number_at k [] b, ranked (get_or (get_or (take live chunks) k []) 0 0) n Less (sym (sides.0 k [] (omega arith) early))))
+      (λ late. omega (arith, number_at k [] b, ranked (get_or (get_or (take live chunks) k []) 0 0) n Greater (sym (sides.1 k [] late (omega (arith, rows_live))))))
+      (earlier_or_not k place)))
 
 -- a change to the ticket of a number, where no other has it
 pub changed_at : (n : ℕ) (f : Ticket → Ticket) (ts : List Ticket) (p : ℕ) → place_of n ts ≡ p → p < length ts
@@ -385,36 +413,31 @@ ticket_from_lem words marks words' marks' long long' j j' h h' same same' =
     let small : k < 80 = omega arith in
     sym (mark_at marks j k small) ∙ same' k small ∙ mark_at marks' j' k small))
 
--- a buffer of w places a ticket, in which the n tickets after the one at a place have moved down
-abbrev closed : ℕ → ℕ → ℕ → List ℕ → List ℕ
-closed w i n l = take (i * w) l ++ shifted w (n * w) (drop (i * w) l)
+-- a ticket in the place of another below it, after its row and its marks have moved there
+pub tickets_moved : (words words' marks marks' : List ℕ) → length marks ≡ 16000 → (source to : ℕ) → source < 200 → to ≤ source
+    → ClosedUp ((source - to) * 16) (to * 16) (source * 16 + 16) words words' → ClosedUp ((source - to) * 80) (to * 80) (source * 80 + 80) marks marks'
+    → tickets_of words' marks' ≡ set (tickets_of words marks) to (get_or (tickets_of words marks) source blank_ticket)
+tickets_moved words words' marks marks' long source to h down rows own =
+    let long' : length marks' ≡ 16000 = own.long ∙ long in
+    tickets_set words marks words' marks' to (ticket_in words marks source) (omega arith)
+    (ticket_from_lem words' marks' words marks long' long to source (omega arith) h
+    (λ k b.
+    let from : to * 16 + k + (source - to) * 16 ≡ source * 16 + k = omega arith in
+    rows.moved (to * 16 + k) (omega arith) (omega arith) ∙ ap (λ j. get_or words j 0) from)
+    (λ k b.
+    let from : to * 80 + k + (source - to) * 80 ≡ source * 80 + k = omega arith in
+    own.moved (to * 80 + k) (omega arith) (omega arith) ∙ ap (λ j. get_or marks j 0) from))
+    (λ j b n. ticket_from_lem words' marks' words marks long' long j j b b
+    (λ k c. ⊎_elim (λ l. rows.before (j * 16 + k) (omega arith)) (λ l. rows.behind (j * 16 + k) (omega arith) (omega arith)) (earlier_or_not j to))
+    (λ k c. ⊎_elim (λ l. own.before (j * 80 + k) (omega arith)) (λ l. own.behind (j * 80 + k) (omega arith) (omega arith)) (earlier_or_not j to)))
+    ∙ ap (set (tickets_of words marks) to) (sym (tickets_at words marks source h))
 
-module _ (words marks : List ℕ) (long : length words ≡ 3200) (long' : length marks ≡ 16000) (i n : ℕ) (h : i + n < 200) where
-  closed_long : length (closed 80 i n marks) ≡ 16000
-  closed_long = length_shifted 80 marks (i * 80) (n * 80) (omega arith) ∙ long'
-
-  closed_before : (j : ℕ) → j < i → ticket_in (closed 16 i n words) (closed 80 i n marks) j ≡ ticket_in words marks j
-  closed_before j b =
-      ticket_from_lem (closed 16 i n words) (closed 80 i n marks) words marks closed_long long' j j (omega arith) (omega arith)
-      (λ k c. shifted_before 16 words (i * 16) (n * 16) (omega arith) (j * 16 + k) 0 (omega arith))
-      (λ k c. shifted_before 80 marks (i * 80) (n * 80) (omega arith) (j * 80 + k) 0 (omega arith))
-
-  closed_behind : (j : ℕ) → i ≤ j → j < i + n → ticket_in (closed 16 i n words) (closed 80 i n marks) j ≡ ticket_in words marks (suc j)
-  closed_behind j b b' =
-      ticket_from_lem (closed 16 i n words) (closed 80 i n marks) words marks closed_long long' j (suc j) (omega arith) (omega arith)
-      (λ k c.
-      let next : j * 16 + k + 16 ≡ suc j * 16 + k = omega arith in
-      shifted_within 16 words (i * 16) (n * 16) (omega arith) (j * 16 + k) 0 (omega arith) (omega arith) ∙ ap (λ m. get_or words m 0) next)
-      (λ k c.
-      let next : j * 80 + k + 80 ≡ suc j * 80 + k = omega arith in
-      shifted_within 80 marks (i * 80) (n * 80) (omega arith) (j * 80 + k) 0 (omega arith) (omega arith) ∙ ap (λ m. get_or marks m 0) next)
-
-pub tickets_without : (words marks : List ℕ) → length words ≡ 3200 → length marks ≡ 16000 → (i live : ℕ) → i < live → live ≤ 200
-    → take (live - 1) (tickets_of (closed 16 i (live - i - 1) words) (closed 80 i (live - i - 1) marks)) ≡ without i (take live (tickets_of words marks))
-tickets_without words marks long long' i live h few =
-    let n : ℕ = live - i - 1 in
-    let words' : List ℕ = closed 16 i (live - i - 1) words in
-    let marks' : List ℕ = closed 80 i (live - i - 1) marks in
+-- the live tickets without one, after both buffers have closed up
+pub tickets_without : (words words' marks marks' : List ℕ) → length marks ≡ 16000 → (i live : ℕ) → i < live → live ≤ 200
+    → ClosedUp 16 (i * 16) (live * 16) words words' → ClosedUp 80 (i * 80) (live * 80) marks marks'
+    → take (live - 1) (tickets_of words' marks') ≡ without i (take live (tickets_of words marks))
+tickets_without words words' marks marks' long i live h few rows own =
+    let long' : length marks' ≡ 16000 = own.long ∙ long in
     let tickets : List Ticket = take live (tickets_of words marks) in
     let count : length (take live (tickets_of words marks)) ≡ live = live_length words marks live few in
     let count' : length (take (live - 1) (tickets_of words' marks')) ≡ live - 1 = live_length words' marks' (live - 1) (omega arith) in
@@ -426,10 +449,18 @@ tickets_without words marks long long' i live h few =
     let small : j < live - 1 = omega arith in
     live_at words' marks' (live - 1) (omega arith) j small
     ∙ ⊎_elim
-    (λ l. closed_before words marks long long' i n (omega arith) j l
+    (λ l. ticket_from_lem words' marks' words marks long' long j j (omega arith) (omega arith)
+    (λ k c. rows.before (j * 16 + k) (omega arith))
+    (λ k c. own.before (j * 80 + k) (omega arith))
     ∙ sym (live_at words marks live few j (omega arith))
     ∙ sym (without_before i tickets (omega arith) j blank_ticket l))
-    (λ l. closed_behind words marks long long' i n (omega arith) j l (omega arith)
+    (λ l. ticket_from_lem words' marks' words marks long' long j (suc j) (omega arith) (omega arith)
+    (λ k c.
+    let next : j * 16 + k + 16 ≡ suc j * 16 + k = omega arith in
+    rows.moved (j * 16 + k) (omega arith) (omega arith) ∙ ap (λ m. get_or words m 0) next)
+    (λ k c.
+    let next : j * 80 + k + 80 ≡ suc j * 80 + k = omega arith in
+    own.moved (j * 80 + k) (omega arith) (omega arith) ∙ ap (λ m. get_or marks m 0) next)
     ∙ sym (live_at words marks live few (suc j) (omega arith))
     ∙ sym (without_behind i tickets (omega arith) j blank_ticket l))
     (earlier_or_not j i))

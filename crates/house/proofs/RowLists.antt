@@ -1,20 +1,23 @@
--- Laws of lists in general that the rows lean on: a run of stores read back, a list without an element, a block moved down within a list, and a
--- list built by index.
-use Prim.Native.Nat.{ℕ, zero, suc, ◌+◌, ◌-◌, ◌≤◌, ◌<◌}
+-- Laws of lists in general that the rows lean on: a run of stores read back, a list without an element, the chunks of a list, a block moved down
+-- within a list, and a list built by index.
+use Prim.Native.Nat.{ℕ, zero, suc, ◌+◌, ◌-◌, ◌*◌, ◌≤◌, ◌<◌}
 use mathlib.Core.Path.{◌≡◌, refl, sym, ap, ◌∙◌, subst}
 use mathlib.Core.Logic.{◌⊎◌, inl, inr, ⊎_elim}
 use mathlib.Core.Bool.{Bool, true, false}
-use mathlib.Core.List.{List, [], ◌∷◌, ◌++◌, map, append-nil}
-use native.Mathlib.Nat.{add-suc, suc-add, add-zero, not-suc-le-zero, le_of_suc-le-suc, eq-or-lt_of_le}
+use mathlib.Core.List.{List, [], ◌∷◌, ◌++◌, map}
+use native.Mathlib.Nat.{zero-mul, add-suc, suc-add, add-zero, not-suc-le-zero, le_of_suc-le-suc, eq-or-lt_of_le}
 use native.Mathlib.Numerals.{add-one}
 use native.Mathlib.Omega.{arith}
 use lib.Dec.{eqb, ltb}
 use borrow.Author.Tests.{eqb-true, eqb-false, ltb-true, ltb-false}
 use lib.ListN.{length, get_or, set, take, drop, length-set, length-append, length-map, length-drop, get_or-append}
-use lib.Seq.{sets, get_or-set_same, get_or-set_other, get_or-take, get_or-drop, take-suc, take_all, drop-cons, drop-length, append_snoc, set_at, get_or-append_seam, drop_at, length-take-le}
-use borrow.Rule.Slice.PartMut.{put_mid}
+use lib.Seq.{sets, get_or-set_same, get_or-set_other, get_or-take, get_or-drop, take-suc, drop-drop, get_or-append_seam, drop_at, length-take-le}
+use borrow.Rule.Slice.PartMut.{mid_of, post_of, put_mid}
+use Rattle.std.specs.List.{CopiedTo, SameBelow, SameFrom}
+use Rattle.std.proofs.lemmas.List.{get_or-append-add}
+use Rattle.std.specs.Simd.{first_chunks}
 use Rattle.sale.specs.Lists.{below}
-use Rattle.house.specs.View.{without, shifted}
+use Rattle.house.specs.View.{without}
 
 module _ {A : Type 0} where
   -- an index outside the run holds what it held
@@ -86,61 +89,88 @@ module _ {A : Type 0} where
         ∙ get_or-drop (suc i) l (j - i) d
         ∙ ap (λ n. get_or l n d) next
 
-  -- one element more that is w places down
-  pub shifted_more : (w : ℕ) (l : List A) (n : ℕ) (d : A) → n + w < length l
-      → set (shifted w n l) n (get_or (shifted w n l) (n + w) d) ≡ shifted w (n + 1) l
-  shifted_more w l n d h =
-      let front : List A = take n (drop w l) in
-      let long : length (drop w l) ≡ length l - w = length-drop w l in
-      let cut : length (take n (drop w l)) ≡ n = length-take-le n (drop w l) (omega arith) in
-      let same : n + w ≡ w + n = omega arith in
-      let read : get_or (shifted w n l) (n + w) d ≡ get_or (drop w l) n d =
-      sym (get_or-drop n (shifted w n l) w d)
-      ∙ ap (λ r. get_or r w d) (drop_at front (drop n l) n cut)
-      ∙ get_or-drop n l w d
-      ∙ ap (λ k. get_or l k d) same
-      ∙ sym (get_or-drop w l n d) in
-      ap (set (shifted w n l) n) read
-      ∙ ap (λ r. set (front ++ r) n (get_or (drop w l) n d)) (drop-cons l n d (omega arith))
-      ∙ set_at front (get_or l n d) (drop (suc n) l) (get_or (drop w l) n d) n cut
-      ∙ sym (append_snoc front (get_or (drop w l) n d) (drop (suc n) l))
-      ∙ ap (λ r. r ++ drop (suc n) l) (sym (take-suc (drop w l) n d (omega arith)))
-      ∙ ap (λ k. shifted w k l) (sym (add-one n))
+  -- the chunks of n elements: each is what stands from its place on
+  pub length_chunks : (n k : ℕ) (l : List A) → length (first_chunks n k l) ≡ k
+  length_chunks n zero l = refl
+  length_chunks n (suc k) l = ap suc (length_chunks n k (drop n l))
 
-  -- a part lent from a place on that comes back shifted
-  pub shifted_part : (w : ℕ) (l part : List A) (at n : ℕ) → at ≤ length l → part ≡ shifted w n (take (length l - at) (drop at l))
-      → put_mid at (length l - at) l part ≡ take at l ++ shifted w n (drop at l)
-  shifted_part w l part at n h e =
-      let long : length (drop at l) ≡ length l - at = length-drop at l in
-      let whole : take (length l - at) (drop at l) ≡ drop at l = take_all (length l - at) (drop at l) (omega arith) in
-      let none : drop (length l - at) (drop at l) ≡ [] = ap (λ k. drop k (drop at l)) (sym long) ∙ drop-length (drop at l) in
-      ap (λ r. take at l ++ (part ++ r)) none
-      ∙ ap (λ r. take at l ++ r) (append-nil part ∙ e ∙ ap (shifted w n) whole)
+  pub chunk_at : (n k i : ℕ) (l d : List A) → i < k → get_or (first_chunks n k l) i d ≡ take n (drop (i * n) l)
+  chunk_at n zero i l d h = absurd (not-suc-le-zero h)
+  chunk_at n (suc k) zero l d h = ap (λ m. take n (drop m l)) (sym (zero-mul n))
+  chunk_at n (suc k) (suc i) l d h =
+      let next : n + i * n ≡ suc i * n = omega arith in
+      chunk_at n k i (drop n l) d (le_of_suc-le-suc h) ∙ ap (take n) (drop-drop (i * n) n l) ∙ ap (λ m. take n (drop m l)) next
 
-  -- n elements from a place on moved down by w: those before the place stay, those of the block stood w places further on
-  module _ (w : ℕ) (l : List A) (at n : ℕ) (h : at + n + w ≤ length l) where
-    pub length_shifted : length (take at l ++ shifted w n (drop at l)) ≡ length l
-    length_shifted =
-        let rest : length (drop at l) ≡ length l - at = length-drop at l in
-        let later : length (drop w (drop at l)) ≡ length (drop at l) - w = length-drop w (drop at l) in
-        length-append (take at l) (shifted w n (drop at l))
-        ∙ omega (arith, length-take-le at l (omega arith), length-append (take n (drop w (drop at l))) (drop n (drop at l)), length-take-le n (drop w (drop at l)) (omega arith), length-drop n (drop at l))
+equal_by : (j i : ℕ) (test : Bool) → eqb j i ≡ test → (j ≡ i) ⊎ (j ≡ i → ⊥)
+equal_by j i true e = inl (eqb-true j i e)
+equal_by j i false e = inr (eqb-false j i e)
 
-    pub shifted_before : (j : ℕ) (d : A) → j < at → get_or (take at l ++ shifted w n (drop at l)) j d ≡ get_or l j d
-    shifted_before j d b = get_or_before l (shifted w n (drop at l)) at j d (omega arith) b
+pub equal_or_not : (j i : ℕ) → (j ≡ i) ⊎ (j ≡ i → ⊥)
+equal_or_not j i = equal_by j i (eqb j i) refl
 
-    pub shifted_within : (j : ℕ) (d : A) → at ≤ j → j < at + n → get_or (take at l ++ shifted w n (drop at l)) j d ≡ get_or l (j + w) d
-    shifted_within j d b c =
-        let rest : length (drop at l) ≡ length l - at = length-drop at l in
-        let later : length (drop w (drop at l)) ≡ length (drop at l) - w = length-drop w (drop at l) in
-        let place : j ≡ at + (j - at) = omega arith in
-        let source : at + (w + (j - at)) ≡ j + w = omega arith in
-        ap (λ k. get_or (take at l ++ shifted w n (drop at l)) k d) place
-        ∙ get_or_behind l (shifted w n (drop at l)) at (j - at) d (omega arith)
-        ∙ get_or_before (drop w (drop at l)) (drop n (drop at l)) n (j - at) d (omega arith) (omega arith)
-        ∙ get_or-drop w (drop at l) (j - at) d
-        ∙ get_or-drop at l (w + (j - at)) d
-        ∙ ap (λ k. get_or l k d) source
+earlier_by : (j i : ℕ) (test : Bool) → ltb j i ≡ test → (j < i) ⊎ (i ≤ j)
+earlier_by j i true e = inl (ltb-true j i e)
+earlier_by j i false e = inr (ltb-false j i e)
+
+pub earlier_or_not : (j i : ℕ) → (j < i) ⊎ (i ≤ j)
+earlier_or_not j i = earlier_by j i (ltb j i) refl
+
+-- what stood up to an end has moved down by w, to a place: below the place nothing has changed, nor behind the part where it now stands
+pub record ClosedUp (w place end : ℕ) (l l' : List ℕ) : Type 0 where
+  pub long : length l' ≡ length l
+  pub before : (k : ℕ) → k < place → get_or l' k 0 ≡ get_or l k 0
+  pub moved : (k : ℕ) → place ≤ k → k + w < end → get_or l' k 0 ≡ get_or l (k + w) 0
+  pub behind : (k : ℕ) → place ≤ k → end ≤ k + w → get_or l' k 0 ≡ get_or l k 0
+
+-- after `l[place..end].copy_within(w.., 0)`
+pub closes_up : (w place end : ℕ) (l part : List ℕ) → place + w ≤ end → end ≤ length l → length part ≡ length (mid_of place (end - place) l)
+    → CopiedTo (mid_of place (end - place) l) part w 0 (length (mid_of place (end - place) l) - w)
+    × SameBelow (mid_of place (end - place) l) part 0 × SameFrom (mid_of place (end - place) l) part (0 + (length (mid_of place (end - place) l) - w))
+    → ClosedUp w place end l (put_mid place (end - place) l part)
+closes_up w place end l part h h' same (copied, none, kept) =
+    let mid : List ℕ = mid_of place (end - place) l in
+    let post : List ℕ = post_of place (end - place) l in
+    let rest : length (drop place l) ≡ length l - place = length-drop place l in
+    let cut : length (mid_of place (end - place) l) ≡ end - place = length-take-le (end - place) (drop place l) (omega arith) in
+    let left : length (post_of place (end - place) l) ≡ length (drop place l) - (end - place) = length-drop (end - place) (drop place l) in
+    -- an index from the place on, in the part that was lent and in the list as it was
+    let lent : (k : ℕ) → place ≤ k → k < end → get_or (put_mid place (end - place) l part) k 0 ≡ get_or part (k - place) 0 =
+    λ k b c.
+    let here : k ≡ place + (k - place) = omega arith in
+    ap (λ j. get_or (put_mid place (end - place) l part) j 0) here
+    ∙ get_or_behind l (part ++ post) place (k - place) 0 (omega arith)
+    ∙ get_or-append part post 0 (k - place) (omega arith) in
+    let held : (j : ℕ) → j < end - place → get_or mid j 0 ≡ get_or l (place + j) 0 =
+    λ j b. get_or-take (end - place) (drop place l) j 0 b ∙ get_or-drop place l j 0 in
+    record {
+      long =
+          length-append (take place l) (part ++ post)
+          ∙ omega (arith, length-append part (post_of place (end - place) l), length-take-le place l (omega arith));
+      before = λ k b. get_or_before l (part ++ post) place k 0 (omega arith) b;
+      moved = λ k b c.
+          let source : w + (k - place - 0) ≡ w + (k - place) = omega arith in
+          let there : place + (w + (k - place)) ≡ k + w = omega arith in
+          lent k b (omega arith)
+          ∙ copied (k - place) 0 (omega arith) (omega arith)
+          ∙ ap (λ j. get_or mid j 0) source
+          ∙ held (w + (k - place)) (omega arith)
+          ∙ ap (λ j. get_or l j 0) there;
+      behind = λ k b c.
+          let here : place + (k - place) ≡ k = omega arith in
+          ⊎_elim
+          (λ inside. lent k b inside ∙ kept (k - place) 0 (omega arith) ∙ held (k - place) (omega arith) ∙ ap (λ j. get_or l j 0) here)
+          (λ outside.
+          let apart : k - place ≡ length part + (k - end) = omega arith in
+          let beyond : place + (end - place + (k - end)) ≡ k = omega arith in
+          ap (λ j. get_or (put_mid place (end - place) l part) j 0) (sym here)
+          ∙ get_or_behind l (part ++ post) place (k - place) 0 (omega arith)
+          ∙ ap (λ j. get_or (part ++ post) j 0) apart
+          ∙ get_or-append-add part post (k - end) 0
+          ∙ get_or-drop (end - place) (drop place l) (k - end) 0
+          ∙ get_or-drop place l (end - place + (k - end)) 0
+          ∙ ap (λ j. get_or l j 0) beyond)
+          (earlier_or_not k end);
+    }
 
 length_below : (n : ℕ) → length (below n) ≡ n
 unfolding below
@@ -172,17 +202,3 @@ module _ {A : Type 0} (f : ℕ → A) (n : ℕ) where
   pub get_or_table : (i : ℕ) (d : A) → i < n → get_or (map f (below n)) i d ≡ f i
   get_or_table i d h =
       get_or_map f (below n) i 0 d (subst (λ k. i < k) (sym (length_below n)) h) ∙ ap f (get_or_below n i h)
-
-equal_by : (j i : ℕ) (test : Bool) → eqb j i ≡ test → (j ≡ i) ⊎ (j ≡ i → ⊥)
-equal_by j i true e = inl (eqb-true j i e)
-equal_by j i false e = inr (eqb-false j i e)
-
-pub equal_or_not : (j i : ℕ) → (j ≡ i) ⊎ (j ≡ i → ⊥)
-equal_or_not j i = equal_by j i (eqb j i) refl
-
-earlier_by : (j i : ℕ) (test : Bool) → ltb j i ≡ test → (j < i) ⊎ (i ≤ j)
-earlier_by j i true e = inl (ltb-true j i e)
-earlier_by j i false e = inr (ltb-false j i e)
-
-pub earlier_or_not : (j i : ℕ) → (j < i) ⊎ (i ≤ j)
-earlier_or_not j i = earlier_by j i (ltb j i) refl

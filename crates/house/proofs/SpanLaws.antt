@@ -1,6 +1,6 @@
 -- Laws on the games of a span: which of them pass a test, by induction on the span; which a ticket has left; and that a ticket and its line
 -- count the same paid stakes for them.
-use Prim.Native.Nat.{ℕ, zero, suc, ◌+◌, ◌-◌, ◌≤◌, ◌<◌, min, max}
+use Prim.Native.Nat.{ℕ, zero, suc, ◌+◌, ◌-◌, ◌*◌, ◌≤◌, ◌<◌, min, max}
 use mathlib.Core.Path.{◌≡◌, refl, sym, ap, ap₂, ◌∙◌}
 use mathlib.Core.Bool.{Bool, true, false, cond, not, ◌&&◌, ◌||◌, true≢false, false≢true}
 use mathlib.Core.List.{[], ◌∷◌}
@@ -174,6 +174,16 @@ drawn_left game t =
         go false here = let same : g ≡ game = omega (arith, leb-false (game + 1) g here) in ap not (eq-eqb g game same)
 
 -- ---- paid stakes
+
+-- the paid stakes as so many games at the ticket's price
+pub stakes_by_games : (from upto : ℕ) (t : Ticket) → paid_stakes from upto t ≡ ticket_price t * (min upto t.free - from)
+unfolding paid_stakes charge
+stakes_by_games from upto t =
+    let same : min upto t.free - min from t.free ≡ min upto t.free - from = omega arith in
+    ap (λ n. ticket_price t * n) same
+
+pub stakes_priced : (from upto price games : ℕ) (t : Ticket) → price ≡ ticket_price t → games ≡ min upto t.free - from → paid_stakes from upto t ≡ price * games
+stakes_priced from upto price games t p g = rw (p, g) (stakes_by_games from upto t)
 
 pub charge_none : (price : ℕ) → charge price 0 ≡ 0
 unfolding charge

@@ -4,6 +4,8 @@ use native.Mathlib.Omega.{arith}
 use mathlib.Core.Path.{◌≡◌, refl, sym, ap, subst, ◌∙◌}
 use mathlib.Core.Bool.{false, cond, not}
 use mathlib.Core.List.{List, map}
+use Rattle.std.specs.Prelude.{Result, Ok, Err}
+use Rattle.std.specs.Result.{IsErrAnd}
 use lib.Dec.{eqb, ltb}
 use lib.ListN.{length, get_or, take}
 use lib.Seq.{ext_get_or}
@@ -14,7 +16,12 @@ use Rattle.house.specs.Model.{Model, is_drawing, next_game}
 use Rattle.calendar.specs.Bounds.{ExpiryBound}
 use Rattle.house.specs.Commands.{Command, Answer, is_expired, blank_ticket, ticket_at, has_ticket, code_of, act, reply, answer_of}
 use Rattle.house.specs.View.{row_at, DayTells, ticket_in, tickets_of, place_of, RisingRows, view}
+use Rattle.refusals.specs.Refusal.{refusal_number}
+use Rattle.refusals.specs.declared.refusal.Refusal.{Refusal}
+use Rattle.refusals.proofs.Refusals.{refusal_some}
 use Rattle.house.specs.Parts.{Carried}
+use Rattle.house.specs.Parts as Parts
+use Rattle.house.specs.declared.answer.Receipt.{Receipt}
 use Rattle.house.specs.declared.state.House.{House}
 use Rattle.house.proofs.Ledger.{All, with_live}
 use Rattle.house.proofs.OneCommand.{refused_unchanged, accepted_done}
@@ -41,6 +48,16 @@ module _ (h : House) (words marks : List ℕ) (c : Command) where
         answer = answered ∙ ap (λ code. record { code = code; number = 0; cents = 0 }) (sym coded) ∙ sym unchanged.1;
         refused = λ _. (same, refl, refl);
       }
+
+  -- the same as a `?` passes it on
+  pub refused_as :
+      (ended : Result Receipt Refusal) (refusal : Refusal)
+      → IsErrAnd ended (λ e. e ≡ refusal)
+      → refusal_number refusal ≡ code_of (view h words marks) c
+      → Carried h words marks c h words marks (Parts.host_answer ended)
+  refused_as (Ok done) refusal never coded = absurd never
+  refused_as (Err e) refusal same coded =
+      carried_refused (refusal_number e) h _ (sym coded ∙ ap refusal_number (sym same)) (refusal_some e) refl refl
 
   -- and the command done, where no row of the table is met
   pub carried_done :

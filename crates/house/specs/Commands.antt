@@ -9,7 +9,7 @@ use Rattle.prizes.specs.Hits.{draw_of}
 use Rattle.prizes.specs.Settle.{Settled, settle}
 use Rattle.prizes.specs.declared.draw.Draw.{Draw}
 use Rattle.sale.specs.Kinds.{jackpot_by}
-use Rattle.sale.specs.declared.terms.Feature.TheVariants.{Absent}
+use Rattle.std.specs.Prelude.{None}
 use Rattle.calendar.specs.Calendar.{has_expired}
 use Rattle.prizes.specs.declared.jackpot.Jackpot.{Jackpot}
 pub use Rattle.house.specs.declared.answer.Answer.{Answer}
@@ -21,7 +21,7 @@ use Rattle.house.specs.Model.{Model, Counters, ticket_limit, game_limit, live_li
 
 abbrev pub blank_ticket : Ticket
 blank_ticket =
-    record { number = 0; operands = record { kind = 0; games = 0; stake = 0; groups = 0; types = 0; feature = Absent; marks = [] }; ways = 0; jackpot = 0; sizes = 0; sold_day = 0; first = 0; stop = 0; free = 0; due = 0; finished_day = 0 }
+    record { number = 0; operands = record { kind = 0; games = 0; stake = 0; groups = 0; types = 0; feature = None; marks = [] }; ways = 0; jackpot = 0; sizes = 0; sold_day = 0; first = 0; stop = 0; free = 0; due = 0; finished_day = 0 }
 
 -- the live ticket of a number, or the blank one
 unfoldable pub ticket_at : ℕ → List Ticket → Ticket

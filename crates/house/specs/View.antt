@@ -4,8 +4,7 @@ use Rattle.std.specs.Prelude.{ℕ, suc, ◌+◌, ◌*◌, ◌≤◌, ◌<◌, co
 use Rattle.std.proofs.lemmas.List.Edits.{sets}
 use Rattle.sale.specs.Lists.{below}
 use Rattle.sale.specs.Price.{charge_limit}
-use Rattle.sale.specs.declared.terms.Feature.{Feature}
-use Rattle.sale.specs.declared.terms.Feature.TheVariants.{Absent, LuckyLast}
+use Rattle.std.specs.Prelude.{Option, None, Some}
 use Rattle.house.specs.Tickets.{Ticket, is_finished, ticket_price, paid_stakes}
 use Rattle.house.specs.Model.{Model, game_limit}
 use Rattle.house.specs.declared.state.House.{House}
@@ -37,10 +36,13 @@ row_of words at =
 abbrev pub row_at : List ℕ → ℕ → Row
 row_at words i = row_of words (i * 16)
 
+-- the words of a row
+abbrev pub words_of : Row → List ℕ
+words_of w =
+    w.number ∷ w.kind ∷ w.games ∷ w.stake ∷ w.groups ∷ w.types ∷ w.ways ∷ w.jackpot ∷ w.sold ∷ w.first ∷ w.stop ∷ w.free ∷ w.due ∷ w.finished ∷ w.sizes ∷ w.feature ∷ []
+
 unfoldable pub put_row : List ℕ → ℕ → Row → List ℕ
-put_row words at w =
-    sets words at
-    (w.number ∷ w.kind ∷ w.games ∷ w.stake ∷ w.groups ∷ w.types ∷ w.ways ∷ w.jackpot ∷ w.sold ∷ w.first ∷ w.stop ∷ w.free ∷ w.due ∷ w.finished ∷ w.sizes ∷ w.feature ∷ [])
+put_row words at w = sets words at (words_of w)
 
 -- the 80 marks of the ticket at a place
 unfoldable pub marks_at : List ℕ → ℕ → List ℕ
@@ -50,8 +52,8 @@ unfoldable pub put_marks : List ℕ → ℕ → List ℕ → List ℕ
 put_marks marks i these = take (i * 80) marks ++ these ++ drop (i * 80 + 80) marks
 
 -- a feature stake in a row: 0 is none
-abbrev pub feature_from : ℕ → Feature
-feature_from stake = cond (eqb stake 0) Absent (LuckyLast stake)
+abbrev pub feature_from : ℕ → Option ℕ
+feature_from stake = cond (eqb stake 0) None (Some stake)
 
 -- a row and its marks as a ticket
 abbrev pub ticket_from : Row → List ℕ → Ticket

@@ -1,10 +1,17 @@
-// What a command answers.
+// How a command ends, and what a host reads of it.
 ghost use Rattle.std.specs.Prelude.{◌≡◌};
+ghost use Rattle.house.specs.Parts.{host_answer};
 
-use crate::state::House;
+use refusals::refusal::Refusal;
 
-// 0 or the refusal's number, and the number and cents of document 01's table.
-#[repr(C)]
+// What an accepted command answers: the number and cents of document 01's table. A refused one answers a `Refusal`, and leaves the house as it was.
+#[derive(Clone, Copy)]
+pub struct Receipt {
+    pub number: u32,
+    pub cents: u64,
+}
+
+// What a host reads of a command: 0 or the refusal's number, and the number and cents, which are 0 where it was refused.
 #[derive(Clone, Copy)]
 pub struct Answer {
     pub code: u8,
@@ -12,38 +19,21 @@ pub struct Answer {
     pub cents: u64,
 }
 
-// The house after a command, and its answer.
-#[repr(C)]
-#[derive(Clone, Copy)]
-pub struct Outcome {
-    pub house: House,
-    pub answer: Answer,
-}
+impl From<Result<Receipt, Refusal>> for Answer {
+    ghost from_gives = { λ ended answer. answer ≡ host_answer ended };
 
-// A refusal: the house as it was.
-pub fn refused(house: House, code: u8) -> Outcome
-    ensures { (result.house ≡ house) × (result.answer ≡ record { code = code; number = 0; cents = 0 }) }
-{
-    Outcome {
-        house,
-        answer: Answer {
-            code,
-            number: 0,
-            cents: 0,
-        },
-    }
-}
-
-// A command carried out: code 0, and what it answers.
-pub fn accepted(house: House, number: u32, cents: u64) -> Outcome
-    ensures { (result.house ≡ house) × (result.answer ≡ record { code = 0; number = number; cents = cents }) }
-{
-    Outcome {
-        house,
-        answer: Answer {
-            code: 0,
-            number,
-            cents,
-        },
+    fn from(ended: Result<Receipt, Refusal>) -> Answer {
+        match ended {
+            Ok(receipt) => Answer {
+                code: 0,
+                number: receipt.number,
+                cents: receipt.cents,
+            },
+            Err(refusal) => Answer {
+                code: u8::from(refusal),
+                number: 0,
+                cents: 0,
+            },
+        }
     }
 }

@@ -1,29 +1,13 @@
 // The live tickets in the buffers that a caller lends: 200 rows of 16 words, one word a field, and 80 marks a ticket. The first `live` of them
-// are the house's, in rising ticket number; what stands beyond is no part of it.
+// are the house's, in rising ticket number; what stands beyond is no part of it. They are two arrays with a number beside them since a host in C
+// lends them so. A place is a plain number below 200 (`IsRow`): callers count through the places, and a type of its own would be made and taken
+// apart at each.
 ghost use Rattle.std.specs.Prelude.{◌≡◌, List, [], ◌∷◌, ◌++◌, ℕ, ◌+◌, ◌-◌, ◌*◌, ◌<◌, ◌≤◌, length, take, drop, set, get_or};
-ghost use Rattle.std.proofs.lemmas.List.Edits.{sets};
+ghost use Rattle.std.specs.List.{CopiedTo, SameBelow, SameFrom};
 ghost use Rattle.house.specs.Commands.{blank_ticket};
-ghost use Rattle.house.specs.View.{row_at, put_row, marks_at, put_marks, ticket_from, tickets_of, place_of, IsRow, IsLiveRow, MarkedRow, MovesDown, RisingRows, without, shifted};
+ghost use Rattle.house.specs.View.{row_of, row_at, words_of, put_row, marks_at, put_marks, ticket_from, tickets_of, place_of, IsRow, IsLiveRow, MarkedRow, MovesDown, RisingRows, without};
 
-// A buffer is as long as its type says: learnt by lending it as a slice.
-pub fn known_words(rows: &[u64; 3200])
-    ensures { length rows.now ≡ 3200 }
-{
-    lent_words(rows);
-}
-
-fn lent_words(_: &[u64]) {}
-
-// The same of the marks.
-pub fn known_marks(marks: &[u8; 16000])
-    ensures { length marks.now ≡ 16000 }
-{
-    lent_marks(marks);
-}
-
-fn lent_marks(_: &[u8]) {}
-
-// The words of a ticket.
+// The words of a ticket. A kind is a number here, and no feature or no finishing day is a 0, since the rows that a host lends hold words alone.
 #[derive(Clone, Copy)]
 pub struct Row {
     pub number: u64,
@@ -44,30 +28,63 @@ pub struct Row {
     pub feature: u64,
 }
 
+impl From<[u64; 16]> for Row {
+    ghost from_gives = { λ words row. row ≡ row_of words 0 };
+
+    fn from(words: [u64; 16]) -> Row {
+        Row {
+            number: words[0],
+            kind: words[1],
+            games: words[2],
+            stake: words[3],
+            groups: words[4],
+            types: words[5],
+            ways: words[6],
+            jackpot: words[7],
+            sold: words[8],
+            first: words[9],
+            stop: words[10],
+            free: words[11],
+            due: words[12],
+            finished: words[13],
+            sizes: words[14],
+            feature: words[15],
+        }
+    }
+}
+
+impl From<Row> for [u64; 16] {
+    ghost from_gives = { λ row words. words ≡ words_of row };
+
+    fn from(row: Row) -> [u64; 16] {
+        [
+            row.number,
+            row.kind,
+            row.games,
+            row.stake,
+            row.groups,
+            row.types,
+            row.ways,
+            row.jackpot,
+            row.sold,
+            row.first,
+            row.stop,
+            row.free,
+            row.due,
+            row.finished,
+            row.sizes,
+            row.feature,
+        ]
+    }
+}
+
 // The row at a place.
 pub fn read_row(rows: &[u64; 3200], i: usize) -> Row
     requires { IsRow i }
     ensures { result ≡ row_at rows.now i }
 {
-    let at = i * 16;
-    Row {
-        number: rows[at],
-        kind: rows[at + 1],
-        games: rows[at + 2],
-        stake: rows[at + 3],
-        groups: rows[at + 4],
-        types: rows[at + 5],
-        ways: rows[at + 6],
-        jackpot: rows[at + 7],
-        sold: rows[at + 8],
-        first: rows[at + 9],
-        stop: rows[at + 10],
-        free: rows[at + 11],
-        due: rows[at + 12],
-        finished: rows[at + 13],
-        sizes: rows[at + 14],
-        feature: rows[at + 15],
-    }
+    let (rows, _) = rows.as_chunks::<16>();
+    Row::from(rows[i])
 }
 
 // The finishing day of the ticket at a place, and 0 before it.
@@ -75,126 +92,55 @@ pub fn finishing_day(rows: &[u64; 3200], i: usize) -> u64
     requires { IsRow i }
     ensures { result ≡ (row_at rows.now i).finished }
 {
-    let at = i * 16;
-    rows[at + 13]
+    read_row(rows, i).finished
 }
 
-// Sixteen words from a place on.
-fn put_words(rows: &mut [u64; 3200], at: usize, words: &[u64])
-    requires { (at ≤ 3184) × (length words.now ≡ 16) }
-    ensures { rows.new ≡ sets rows.old at words.now }
-{
-    let mut k = 0;
-    while k < 16 {
-        rows[at + k] = words[k];
-        k += 1;
-    }
-}
-
-// Another row at a place.
+// Another row at a place. Word by word, so that words which have not changed are not stored: `copy_from_slice` goes by an array on the stack.
+#[tactic(auto, using(crate::proofs::RowLists::sets_more), unfolding(crate::specs::View::put_row))]
 pub(crate) fn write_row(rows: &mut [u64; 3200], i: usize, row: Row)
     requires { IsRow i }
     ensures { rows.new ≡ put_row rows.old (i * 16) row }
 {
-    let words = [
-        row.number,
-        row.kind,
-        row.games,
-        row.stake,
-        row.groups,
-        row.types,
-        row.ways,
-        row.jackpot,
-        row.sold,
-        row.first,
-        row.stop,
-        row.free,
-        row.due,
-        row.finished,
-        row.sizes,
-        row.feature,
-    ];
-    put_words(rows, i * 16, &words);
+    let words: [u64; 16] = row.into();
+    let at = i * 16;
+    for (k, word) in words.iter().enumerate() {
+        rows[at + k] = *word;
+    }
 }
 
 // A ticket's marks, written from the 80 of a sale.
+#[tactic(auto, unfolding(crate::specs::View::put_marks))]
 pub(crate) fn write_marks(marks: &mut [u8; 16000], i: usize, from: &[u8])
     requires { MarkedRow i from.now }
     ensures { marks.new ≡ put_marks marks.old i from.now }
 {
-    known_marks(marks);
     let at = i * 80;
-    let mut k = 0;
-    while k < 80 {
-        marks[at + k] = from[k];
-        k += 1;
-    }
+    marks[at..at + 80].copy_from_slice(from);
 }
 
-// The marks of one ticket in the place of another's.
-fn move_marks(marks: &mut [u8; 16000], from: usize, to: usize)
-    requires { (to < from) × (from < 200) }
-    ensures { marks.new ≡ put_marks marks.old to (marks_at marks.old from) }
-{
-    known_marks(marks);
-    let source = from * 80;
-    let at = to * 80;
-    let mut k = 0;
-    while k < 80 {
-        let mark = marks[source + k];
-        marks[at + k] = mark;
-        k += 1;
-    }
-}
-
-// The first place among the live tickets whose number is not below the given one, or how many they are. The numbers rise, so each turn halves
-// what is left to look at.
-fn first_from(rows: &[u64; 3200], live: usize, number: u64) -> usize
-    requires { RisingRows rows.now live }
-    ensures within { result ≤ live }
-    ensures before { (k : ℕ) → k < result → get_or rows.now (k * 16) 0 < number }
-    ensures after { (k : ℕ) → result ≤ k → k < live → number ≤ get_or rows.now (k * 16) 0 }
-{
-    let mut low = 0;
-    let mut high = live;
-    while low < high {
-        let middle = (low + high) / 2;
-        let at = middle * 16;
-        if rows[at] < number {
-            low = middle + 1;
-        } else {
-            high = middle;
-        }
-    }
-    low
-}
-
-// The place of a ticket's number among the live ones, or how many they are where it is not there.
+// The place of a ticket's number among the live ones, or how many they are where it is not there. Callers know a place by comparing it with `live`.
 pub fn place_of(rows: &[u64; 3200], live: usize, number: u64) -> usize
     requires { RisingRows rows.now live }
     ensures { (m : List ℕ) → result ≡ place_of number (take live (tickets_of rows.now m)) }
 {
-    let place = first_from(rows, live, number);
-    if live <= place {
-        return live;
+    let (rows, _) = rows.as_chunks::<16>();
+    match rows[..live].binary_search_by_key(&number, |row| row[0]) {
+        Ok(place) => place,
+        Err(_) => live,
     }
-    let at = place * 16;
-    if rows[at] != number {
-        return live;
-    }
-    place
 }
 
 // Another row in the place of a ticket's, which keeps its marks.
+#[tactic(auto, using(crate::proofs::RowLaws::tickets_put_row))]
 pub fn change_ticket(rows: &mut [u64; 3200], i: usize, row: Row)
     requires { IsRow i }
     ensures { (m : List ℕ) → tickets_of rows.new m ≡ set (tickets_of rows.old m) i (ticket_from row (marks_at m i)) }
 {
-    known_words(rows);
     write_row(rows, i, row);
 }
 
 // One ticket more behind the live ones.
+#[tactic(auto, using(crate::proofs::RowLaws::tickets_put, crate::proofs::RowLaws::take_sold, crate::proofs::RowLaws::tickets_length))]
 pub fn append_ticket(
     rows: &mut [u64; 3200],
     marks: &mut [u8; 16000],
@@ -205,13 +151,12 @@ pub fn append_ticket(
     requires { MarkedRow live from.now }
     ensures { take (live + 1) (tickets_of rows.new marks.new) ≡ take live (tickets_of rows.old marks.old) ++ (ticket_from row from.now ∷ []) }
 {
-    known_words(rows);
-    known_marks(marks);
     write_row(rows, live, row);
     write_marks(marks, live, from);
 }
 
-// One ticket with its marks in the place of another.
+// One ticket with its marks in the place of another. Inlined, so that a ticket that stays in place costs a comparison and no call.
+#[inline(always)]
 pub fn move_ticket(rows: &mut [u64; 3200], marks: &mut [u8; 16000], from: usize, to: usize)
     requires { MovesDown from to }
     ensures { tickets_of rows.new marks.new ≡ set (tickets_of rows.old marks.old) to (get_or (tickets_of rows.old marks.old) from blank_ticket) }
@@ -219,51 +164,22 @@ pub fn move_ticket(rows: &mut [u64; 3200], marks: &mut [u8; 16000], from: usize,
     if to == from {
         return;
     }
-    known_words(rows);
-    known_marks(marks);
-    let row = read_row(rows, from);
-    write_row(rows, to, row);
-    move_marks(marks, from, to);
+    // Down to the front of the part from one place to the other, which the back end sees: between two places it would copy either way.
+    let down = from - to;
+    rows[to * 16..from * 16 + 16].copy_within(down * 16.., 0);
+    marks[to * 80..from * 80 + 80].copy_within(down * 80.., 0);
 }
 
-// The first words become those a row further on. The loop runs from the slice's start, so that the back end makes one block move of it.
-fn shift_words(words: &mut [u64], count: usize)
-    requires { count + 16 ≤ length words.old }
-    ensures { words.new ≡ shifted 16 count words.old }
+// The items become those so many further on. A loop from the slice's start, of which the back end makes one block move: of std's `copy_within` it makes a
+// loop for the words, half as slow again.
+fn shift_down<T: Copy, const STEP: usize>(items: &mut [T])
+    requires { STEP ≤ length items.old }
+    ensures len { length items.new ≡ length items.old }
+    ensures by_index { CopiedTo items.old items.new STEP 0 (length items.old - STEP) × SameBelow items.old items.new 0 × SameFrom items.old items.new (0 + (length items.old - STEP)) }
 {
-    let mut k = 0;
-    while k < count {
-        words[k] = words[k + 16];
-        k += 1;
+    for k in 0..items.len() - STEP {
+        items[k] = items[k + STEP];
     }
-}
-
-// The same from a place on.
-fn shift_words_from(words: &mut [u64], at: usize, count: usize)
-    requires { at + count + 16 ≤ length words.old }
-    ensures { words.new ≡ take at words.old ++ shifted 16 count (drop at words.old) }
-{
-    shift_words(&mut words[at..], count);
-}
-
-// The first marks become those a ticket further on, in one block as the words.
-fn shift_marks(marks: &mut [u8], count: usize)
-    requires { count + 80 ≤ length marks.old }
-    ensures { marks.new ≡ shifted 80 count marks.old }
-{
-    let mut k = 0;
-    while k < count {
-        marks[k] = marks[k + 80];
-        k += 1;
-    }
-}
-
-// The same from a place on.
-fn shift_marks_from(marks: &mut [u8], at: usize, count: usize)
-    requires { at + count + 80 ≤ length marks.old }
-    ensures { marks.new ≡ take at marks.old ++ shifted 80 count (drop at marks.old) }
-{
-    shift_marks(&mut marks[at..], count);
 }
 
 // The live tickets without the one at a place: those after it move down, their rows in one block and their marks in another.
@@ -271,9 +187,6 @@ pub fn remove_ticket(rows: &mut [u64; 3200], marks: &mut [u8; 16000], live: usiz
     requires { IsLiveRow i live }
     ensures { take (live - 1) (tickets_of rows.new marks.new) ≡ without i (take live (tickets_of rows.old marks.old)) }
 {
-    known_words(rows);
-    known_marks(marks);
-    let after = live - i - 1;
-    shift_words_from(rows, i * 16, after * 16);
-    shift_marks_from(marks, i * 80, after * 80);
+    shift_down::<u64, 16>(&mut rows[i * 16..live * 16]);
+    shift_down::<u8, 80>(&mut marks[i * 80..live * 80]);
 }

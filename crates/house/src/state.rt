@@ -1,4 +1,5 @@
-// The house as its caller keeps it: a small struct by value. The live tickets stand beside it, in rows and marks that the caller lends.
+// The house as its caller keeps it: a small struct. The live tickets stand beside it, in rows and marks that the caller lends. The layout is
+// that of the struct in C, so the balls are an array with their number beside it.
 ghost use Rattle.std.specs.Prelude.{◌≡◌, List, ℕ};
 ghost use Rattle.house.specs.Model.{fresh, next_game};
 ghost use Rattle.house.specs.View.{view, InGames};
@@ -53,6 +54,7 @@ impl House {
     pub const GAME_LIMIT: u64 = 9_999_999;
 
     // A house in which nothing has happened, whatever the lent buffers hold.
+    #[tactic(auto, unfolding(crate::specs::View::view, sale::specs::Lists::below))]
     pub fn fresh() -> House
         ensures { (rows marks : List ℕ) → view result rows marks ≡ fresh }
     {
@@ -78,17 +80,17 @@ impl House {
             },
         }
     }
+
     // The first game that is not being drawn: where a new ticket begins, and what Cancel can still take off.
     #[tactic(auto, using(crate::proofs::ViewLaws::next_waiting, crate::proofs::ViewLaws::next_drawing))]
     pub fn first_game(self) -> u64
         requires { InGames self }
         ensures { (words marks : List ℕ) → result ≡ next_game (view self words marks) }
     {
-        let game = self.game;
-        let drawn = self.drawn;
-        if drawn == 0 {
-            return game;
+        if self.drawn == 0 {
+            self.game
+        } else {
+            self.game + 1
         }
-        game + 1
     }
 }

@@ -9,33 +9,26 @@ ghost use Rattle.house.specs.View.{ticket_from, ticket_in, IsRow, Affordable, Pa
 use crate::rows::{Row, finishing_day};
 
 // Whether the ticket runs in a game.
+#[tactic(auto, unfolding(crate::specs::Tickets::runs_in))]
 pub fn runs_in(game: u64, row: Row) -> bool
     ensures { (marks : List ℕ) → result ≡ runs_in game (ticket_from row marks) }
 {
-    if game < row.first {
-        return false;
-    }
-    game < row.stop
+    (row.first..row.stop).contains(&game)
 }
 
 // Whether no game is left to draw where the given one is the current one.
+#[tactic(auto, unfolding(crate::specs::Tickets::games_left))]
 pub fn is_finished(game: u64, row: Row) -> bool
     ensures { (marks : List ℕ) → result ≡ is_finished game (ticket_from row marks) }
 {
-    if row.stop <= game {
-        return true;
-    }
-    row.stop <= row.first
+    row.stop <= row.first.max(game)
 }
 
 // Whether the ticket is finished with nothing due.
 pub fn is_closed(game: u64, row: Row) -> bool
     ensures { (marks : List ℕ) → result ≡ not (is_live game (ticket_from row marks)) }
 {
-    if row.due != 0 {
-        return false;
-    }
-    is_finished(game, row)
+    row.due == 0 && is_finished(game, row)
 }
 
 // Whether the ticket at a place has expired, by the day's bound. A ticket that is not finished has no finishing day, so that no other word of it is
@@ -49,10 +42,7 @@ pub fn is_expired(rows: &[u64; 3200], i: usize, bound: u64) -> bool
         → result ≡ is_expired m (ticket_in rows.now marks i) }
 {
     let day = finishing_day(rows, i);
-    if day == 0 {
-        return false;
-    }
-    day < bound
+    day != 0 && day < bound
 }
 
 // Whether the ticket is one of 50 games or more and has begun.
@@ -60,33 +50,21 @@ pub fn is_expired(rows: &[u64; 3200], i: usize, bound: u64) -> bool
 pub fn keno_to_go_begun(game: u64, drawing: bool, row: Row) -> bool
     ensures { (marks : List ℕ) → result ≡ keno_to_go_begun game drawing (ticket_from row marks) }
 {
-    if row.games < 50 {
-        return false;
-    }
-    if row.first < game {
-        return true;
-    }
-    if row.first != game {
-        return false;
-    }
-    drawing
+    row.games >= 50 && (row.first < game || row.first == game && drawing)
 }
 
 // The ticket, with the day as its finishing day where it is finished and has none.
 pub fn finished_on(day: u64, game: u64, mut row: Row) -> Row
     ensures { (marks : List ℕ) → ticket_from result marks ≡ finished_on day game (ticket_from row marks) }
 {
-    if row.finished != 0 {
-        return row;
+    if row.finished == 0 && is_finished(game, row) {
+        row.finished = day;
     }
-    if !is_finished(game, row) {
-        return row;
-    }
-    row.finished = day;
     row
 }
 
 // What the ticket pays for a game: the stakes of its ways and its feature stake.
+#[tactic(auto, using(crate::proofs::RowLaws::row_feature), unfolding(sale::specs::Price::game_price))]
 fn game_price(row: Row) -> u64
     requires { Affordable row }
     ensures { (marks : List ℕ) → result ≡ ticket_price (ticket_from row marks) }
@@ -95,20 +73,16 @@ fn game_price(row: Row) -> u64
 }
 
 // The paid stakes of the games from one up to another: those before the first free one.
+#[tactic(auto, using(crate::proofs::SpanLaws::stakes_by_games))]
 pub fn paid_stakes(from: u64, upto: u64, row: Row) -> u64
     requires { PaidWithin from upto row }
     ensures { (marks : List ℕ) → result ≡ paid_stakes from upto (ticket_from row marks) }
 {
-    if row.free <= from {
+    let games = upto.min(row.free).saturating_sub(from);
+    if games == 0 {
         return 0;
     }
-    if upto <= from {
-        return 0;
-    }
-    if row.free <= upto {
-        return game_price(row) * (row.free - from);
-    }
-    game_price(row) * (upto - from)
+    game_price(row) * games
 }
 
 // The paid stakes of the games that are left.
@@ -116,22 +90,18 @@ pub fn held_for(game: u64, row: Row) -> u64
     requires { PaidWithin (max row.first game) row.stop row }
     ensures { (marks : List ℕ) → result ≡ held_for game (ticket_from row marks) }
 {
-    if row.first < game {
-        return paid_stakes(game, row.stop, row);
-    }
-    paid_stakes(row.first, row.stop, row)
+    paid_stakes(row.first.max(game), row.stop, row)
 }
 
 // What the ticket paid for a game: nothing where it does not run in it, or plays it free.
+#[tactic(auto, using(crate::proofs::SpanLaws::stakes_by_games))]
 pub fn paid_for(game: u64, row: Row) -> u64
     requires { Affordable row }
     ensures { (marks : List ℕ) → result ≡ cond (runs_in game (ticket_from row marks)) (paid_stakes game (game + 1) (ticket_from row marks)) 0 }
 {
-    if row.free <= game {
-        return 0;
+    if game < row.free && runs_in(game, row) {
+        game_price(row)
+    } else {
+        0
     }
-    if !runs_in(game, row) {
-        return 0;
-    }
-    game_price(row)
 }

@@ -2,19 +2,24 @@
 
 #![tactic(auto)]
 
-ghost use Rattle.std.specs.Prelude.{◌*◌, ◌≤◌, length, IfOk};
+ghost use Rattle.std.specs.Prelude.{◌*◌, ◌≤◌, length, IfOk, IfSome, OnOk};
+ghost use Rattle.std.specs.Io.KnownBytes.{Appends};
 ghost use Rattle.house.specs.Balance.{Reached};
 ghost use Rattle.house.specs.View.{view};
-ghost use Rattle.ledger.specs.Sittings.{ReadsOn};
+ghost use Rattle.roll.specs.Orders.{Reported};
+ghost use Rattle.ledger.specs.Sittings.{ReadsOn, printed};
 
+use arrayvec::ArrayString;
 use house::state::House;
-use queries::till::{Till, till_of};
+use queries::till::till_of;
 use roll::reader::{Report, read_roll};
+use std::fmt::{Display, Write as _};
 use std::io::{self, Read, Write};
-use text::lines::{put_stop_line, put_till_line};
-use text::records::put_book;
+use text::lines::{StopLine, TillLine};
+use text::records::BookLines;
 
-// Reads until the buffer is full or the input ends, and returns how many bytes it read.
+// Reads until the buffer is full or the input ends, and returns how many bytes it read. A loop of its own, since std's `read_exact` fails where the
+// input is shorter and `read_to_end` needs a heap.
 fn read_full<R: Read>(input: &mut R, roll: &mut [u8]) -> io::Result<usize>
     ensures { IfOk result (λ size. size ≤ length roll.new) }
 {
@@ -29,21 +34,15 @@ fn read_full<R: Read>(input: &mut R, roll: &mut [u8]) -> io::Result<usize>
     Ok(size)
 }
 
-// The answers of a book, of at most 64.
-fn print_book<W: Write>(output: &mut W, book: &[u8], answers: usize) -> io::Result<()>
-    requires { (answers ≤ 64) × (answers * 14 ≤ length book.now) }
+// Prints a text in one write where a page holds it, and else piece by piece.
+fn print<W: Write, D: Display>(output: &mut W, text: &D) -> io::Result<()>
+    ensures { OnOk result (IfSome (D.output text.now) (Appends (W.contents output.old) (W.contents output.new))) }
 {
-    let mut out = [0u8; 4096];
-    let size = put_book(&mut out, book, answers);
-    output.write_all(&out[..size])
-}
-
-// The last two lines.
-fn print_end<W: Write>(output: &mut W, stop: u8, till: Till) -> io::Result<()> {
-    let mut out = [0u8; 4096];
-    let next = put_stop_line(&mut out, 0, stop);
-    let size = put_till_line(&mut out, next, till);
-    output.write_all(&out[..size])
+    let mut page = ArrayString::<4096>::new();
+    match write!(page, "{text}") {
+        Ok(()) => output.write_all(page.as_str().as_bytes()),
+        Err(_) => write!(output, "{text}"),
+    }
 }
 
 // Reads on until a book of 64 answers is full or the roll stops.
@@ -57,26 +56,32 @@ fn read_on(
     requires { Reached (view house rows.old marks.old) }
     ensures reads_on { ReadsOn (view result.house rows.new marks.new) roll.now result.stop result.read }
     ensures few { result.answers * 14 ≤ 896 }
+    ensures reported { Reported house rows.old marks.old roll.now book.old result rows.new marks.new book.new }
 {
     read_roll(house, rows, marks, roll, book)
 }
 
-// Runs a whole roll, and prints the answers of each book.
+// Runs a whole roll, and prints the answers of each book, the stop code and the till. Stop 3, a full book, is a number as all stops are, since
+// the report goes to C as it stands.
 fn run_roll<W: Write>(
     output: &mut W,
     roll: &[u8],
     rows: &mut [u64; 3200],
     marks: &mut [u8; 16000],
-) -> io::Result<()> {
+) -> io::Result<()>
+    ensures { OnOk result (Appends (W.contents output.old) (W.contents output.new) (printed roll.now)) }
+{
     let mut house = House::fresh();
     let mut book = [0u8; 896];
     let mut rest = roll;
     loop {
         let report = read_on(house, rows, marks, rest, &mut book);
-        print_book(output, &book, report.answers)?;
+        print(output, &BookLines(&book[..report.answers * 14]))?;
         house = report.house;
-        if report.stop != 3 {
-            return print_end(output, report.stop, till_of(house, rows));
+        let is_full = report.stop == 3;
+        if !is_full {
+            let till = TillLine(till_of(house, rows));
+            return print(output, &format_args!("{}{till}", StopLine(report.stop)));
         }
         rest = report.unread(rest);
     }

@@ -1,13 +1,14 @@
 -- Numbers and their bytes, high byte first: bytes are read by their two parts, written by them, and a number that fits so many bytes is read back
 -- from them.
 use Prim.Native.Nat.{ℕ, zero, suc, ◌+◌, ◌-◌, ◌*◌, ◌/◌, ◌%◌, ◌^◌, ◌≤◌, ◌<◌}
-use native.Mathlib.Nat.{add-mul, mul_assoc, mul_comm, zero-mul, pow-suc, mod-eq_of_lt, div-add-mod', div-div-eq-div-mul}
-use native.Mathlib.Numerals.{add-one, add-two, add-three}
+use native.Mathlib.Nat.{add-mul, mul_assoc, mul_comm, zero-mul, one-mul, mul-le-mul_right, pow-suc, mod-eq_of_lt, div-add-mod', div-div-eq-div-mul}
 use native.Mathlib.Omega.{arith}
-use mathlib.Core.Path.{◌≡◌, refl, sym, ap, ap₂, ◌∙◌}
+use mathlib.Core.Path.{◌≡◌, refl, sym, ap, ap₂, subst, ◌∙◌}
 use mathlib.Core.List.{List, [], ◌∷◌, ◌++◌, append_assoc}
-use lib.ListN.{get_or, take, drop, set, length, length-drop, length-append}
-use lib.Seq.{drop-cons, drop-drop, drop_at, take_at, take-nil, take-take, take-add, length-take-le, get_or-take, get_or-drop, sets-eq}
+use lib.ListN.{get_or, take, drop, length, length-drop}
+use lib.Seq.{length-take-le, take-length, drop-drop, take-nil, take-take, get_or-take, get_or-drop}
+use borrow.Rule.Slice.PartMut.{put_mid}
+use Rattle.std.specs.Int.{w64, from_be_bytes, bytes_high_first}
 use Rattle.numbers.specs.Bytes.{number_from, number_of, bytes_of}
 
 -- one digit more, to the base 256
@@ -45,44 +46,77 @@ number_of_bytes k n fits = read_back k 0 n ∙ omega (arith, mod-eq_of_lt fits, 
 
 -- ---- bytes read
 
--- a number in front of some bytes
-behind : (front : ℕ) (bytes : List ℕ) → number_from front bytes ≡ front * 256 ^ length bytes + number_of bytes
+small_from :
+    (front : ℕ) (bytes : List ℕ)
+    → ((i : ℕ) → get_or bytes i 0 < 256)
+    → number_from front bytes < (front + 1) * 256 ^ length bytes
 unfolding number_from
-behind front [] = omega arith
-behind front (b ∷ bytes) =
+small_from front [] small = omega arith
+small_from front (b ∷ bytes) small =
     let p = 256 ^ length bytes in
-    behind (front * 256 + b) bytes
-    ∙ rw (pow-suc 256 (length bytes))
+    let room : front * 256 + b + 1 ≤ (front + 1) * 256 = omega (arith, small 0) in
+    rw (pow-suc 256 (length bytes))
     (omega (
       arith,
-      behind (0 * 256 + b) bytes,
-      add-mul (front * 256) b p,
-      mul_assoc front 256 p,
-      ap (λ x. front * x) (mul_comm 256 p),
+      small_from (front * 256 + b) bytes (λ i. small (suc i)),
+      mul-le-mul_right p room,
+      mul_assoc (front + 1) 256 p,
+      ap (λ x. (front + 1) * x) (mul_comm 256 p),
     ))
 
-joined : (front : ℕ) (high low : List ℕ) → number_from front (high ++ low) ≡ number_from (number_from front high) low
-unfolding number_from
-joined front [] low = refl
-joined front (b ∷ high) low = joined (front * 256 + b) high low
+-- the first of some small numbers are small
+part_small : (k : ℕ) (l : List ℕ) → ((i : ℕ) → get_or l i 0 < 256) → (i : ℕ) → get_or (take k l) i 0 < 256
+part_small zero l small i = omega arith
+part_small (suc k) [] small i = omega arith
+part_small (suc k) (x ∷ l) small zero = small 0
+part_small (suc k) (x ∷ l) small (suc i) = part_small k l (λ j. small (suc j)) i
 
--- the bytes at a place by their first i and the j behind those
-pub by_parts :
-    (i j : ℕ) (l : List ℕ) (at : ℕ)
-    → at + (i + j) ≤ length l
-    → number_of (take (i + j) (drop at l)) ≡ number_of (take i (drop at l)) * 256 ^ j + number_of (take j (drop (at + i) l))
-by_parts i j l at within =
-    let high = take i (drop at l) in
-    let low = take j (drop (at + i) l) in
-    let long : length low ≡ j = length-take-le j (drop (at + i) l) (omega (arith, length-drop (at + i) l)) in
-    ap number_of (take-add i j (drop at l) ∙ ap (λ r. high ++ take j r) (drop-drop i at l))
-    ∙ joined 0 high low
-    ∙ behind (number_of high) low
-    ∙ ap (λ k. number_of high * 256 ^ k + number_of low) long
+-- k bytes stand for a number below 256 ^ k
+pub number_below : (bytes : List ℕ) → ((i : ℕ) → get_or bytes i 0 < 256) → number_of bytes < 256 ^ length bytes
+number_below bytes small = omega (arith, small_from 0 bytes small, one-mul (256 ^ length bytes))
 
-pub one_byte_at : (l : List ℕ) (at : ℕ) → at < length l → number_of (take 1 (drop at l)) ≡ get_or l at 0
+at_end :
+    (bytes : List ℕ)
+    → length bytes ≤ 8
+    → from_be_bytes w64 (put_mid (8 - length bytes) (8 - (8 - length bytes)) (0 ∷ 0 ∷ 0 ∷ 0 ∷ 0 ∷ 0 ∷ 0 ∷ 0 ∷ []) bytes) ≡ number_of bytes
 unfolding number_from
-one_byte_at l at within = rw (drop-cons l at 0 within) (omega arith)
+at_end [] few = omega arith
+at_end (a ∷ []) few = omega arith
+at_end (a ∷ b ∷ []) few = omega arith
+at_end (a ∷ b ∷ c ∷ []) few = omega arith
+at_end (a ∷ b ∷ c ∷ d ∷ []) few = omega arith
+at_end (a ∷ b ∷ c ∷ d ∷ e ∷ []) few = omega arith
+at_end (a ∷ b ∷ c ∷ d ∷ e ∷ f ∷ []) few = omega arith
+at_end (a ∷ b ∷ c ∷ d ∷ e ∷ f ∷ g ∷ []) few = omega arith
+at_end (a ∷ b ∷ c ∷ d ∷ e ∷ f ∷ g ∷ h ∷ []) few = omega arith
+at_end (a ∷ b ∷ c ∷ d ∷ e ∷ f ∷ g ∷ h ∷ i ∷ bytes) few = absurd (omega arith)
+
+-- the bytes of a part of a list, and how many they are
+part_long : (n : ℕ) (l : List ℕ) (at : ℕ) → at + n ≤ length l → length (take n (drop at l)) ≡ n
+part_long n l at within = length-take-le n (drop at l) (omega (arith, length-drop at l))
+
+-- a number read by its bytes at the end of eight
+pub number_read :
+    (l eight part : List ℕ) (at n : ℕ)
+    → n ≤ 8
+    → at + n ≤ length l
+    → part ≡ take (at + n - at) (drop at l)
+    → eight ≡ put_mid (8 - n) (8 - (8 - n)) (0 ∷ 0 ∷ 0 ∷ 0 ∷ 0 ∷ 0 ∷ 0 ∷ 0 ∷ []) part
+    → from_be_bytes w64 eight ≡ number_of (take n (drop at l))
+number_read l eight part at n few within is made =
+    let count : at + n - at ≡ n = omega arith in
+    let same : part ≡ take n (drop at l) = is ∙ ap (λ k. take k (drop at l)) count in
+    let long : length part ≡ n = ap length same ∙ part_long n l at within in
+    ap (from_be_bytes w64) (made ∙ ap (λ k. put_mid (8 - k) (8 - (8 - k)) (0 ∷ 0 ∷ 0 ∷ 0 ∷ 0 ∷ 0 ∷ 0 ∷ 0 ∷ []) part) (sym long))
+    ∙ at_end part (omega arith)
+    ∙ ap number_of same
+
+-- n bytes of a buffer stand for a number below 256 ^ n
+pub number_fits : (l : List ℕ) (at n : ℕ) → at + n ≤ length l → ((i : ℕ) → get_or l i 0 < 256) → number_of (take n (drop at l)) < 256 ^ n
+number_fits l at n within small =
+    let part = take n (drop at l) in
+    subst (λ k. number_of part < 256 ^ k) (part_long n l at within)
+    (number_below part (λ i. part_small n (drop at l) (λ j. rw (get_or-drop at l j 0) (small (at + j))) i))
 
 -- two bytes stand for a number below 65,536
 pub two_bytes_below : (l : List ℕ) → ((i : ℕ) → get_or l i 0 < 256) → number_of (take 2 l) < 65536
@@ -114,69 +148,42 @@ past_first (suc i) (suc k) (x ∷ l) =
 
 -- ---- bytes written
 
-four_set :
-    (l : List ℕ) (at a b c d : ℕ)
-    → at + 4 ≤ length l
-    → set (set (set (set l at a) (at + 1) b) (at + 2) c) (at + 3) d ≡ take at l ++ (a ∷ b ∷ c ∷ d ∷ []) ++ drop (at + 4) l
-four_set l at a b c d within = rw (add-one at, add-two at, add-three at) (sets-eq (a ∷ b ∷ c ∷ d ∷ []) l at within)
-
--- the bytes of a number of 32 bits
-pub four_stored :
-    (l : List ℕ) (at n : ℕ)
-    → at + 4 ≤ length l
-    → n < 2 ^ 32
-    → set (set (set (set l at (n / 16777216)) (at + 1) (n / 65536 % 256)) (at + 2) (n / 256 % 256)) (at + 3) (n % 256)
-    ≡ take at l ++ bytes_of 4 n ++ drop (at + 4) l
+-- std's bytes of a number, and ours
+high_first : (k n : ℕ) → bytes_high_first k n ≡ bytes_of k n
 unfolding bytes_of
-four_stored l at n within fits =
-    let top : n / 16777216 ≡ n / 16777216 % 256 = omega arith in
-    let low : n % 256 ≡ n / 1 % 256 = omega arith in
-    four_set l at (n / 16777216) (n / 65536 % 256) (n / 256 % 256) (n % 256) within
-    ∙ ap₂ (λ first last. take at l ++ (first ∷ n / 65536 % 256 ∷ n / 256 % 256 ∷ last ∷ []) ++ drop (at + 4) l) top low
+high_first zero n = refl
+high_first (suc zero) n = ap (λ b. b ∷ []) (omega arith)
+high_first (suc (suc k)) n = ap (λ bytes. n / 256 ^ suc k % 256 ∷ bytes) (high_first (suc k) n)
 
--- and of one of 64, by its halves
-eight_bytes : (n : ℕ) → bytes_of 4 (n / 4294967296) ++ bytes_of 4 (n % 4294967296) ≡ bytes_of 8 n
+past_high : (j k n : ℕ) → drop j (bytes_of (j + k) n) ≡ bytes_of k n
 unfolding bytes_of
-eight_bytes n =
-    let b7 : n / 4294967296 / 256 ^ 3 % 256 ≡ n / 256 ^ 7 % 256 = omega arith in
-    let b6 : n / 4294967296 / 256 ^ 2 % 256 ≡ n / 256 ^ 6 % 256 = omega arith in
-    let b5 : n / 4294967296 / 256 ^ 1 % 256 ≡ n / 256 ^ 5 % 256 = omega arith in
-    let b4 : n / 4294967296 / 256 ^ 0 % 256 ≡ n / 256 ^ 4 % 256 = omega arith in
-    let b3 : n % 4294967296 / 256 ^ 3 % 256 ≡ n / 256 ^ 3 % 256 = omega arith in
-    let b2 : n % 4294967296 / 256 ^ 2 % 256 ≡ n / 256 ^ 2 % 256 = omega arith in
-    let b1 : n % 4294967296 / 256 ^ 1 % 256 ≡ n / 256 ^ 1 % 256 = omega arith in
-    let b0 : n % 4294967296 / 256 ^ 0 % 256 ≡ n / 256 ^ 0 % 256 = omega arith in
-    λ i. b7 i ∷ b6 i ∷ b5 i ∷ b4 i ∷ b3 i ∷ b2 i ∷ b1 i ∷ b0 i ∷ []
+past_high zero k n = let none : 0 + k ≡ k = omega arith in ap (λ m. bytes_of m n) none
+past_high (suc j) k n =
+    let next : suc j + k ≡ suc (j + k) = omega arith in
+    ap (λ m. drop (suc j) (bytes_of m n)) next ∙ past_high j k n
+
+-- the last k of eight
+pub last_bytes : (k n : ℕ) → k ≤ 8 → drop (8 - k) (bytes_high_first 8 n) ≡ bytes_of k n
+last_bytes k n few =
+    let all : 8 ≡ (8 - k) + k = omega arith in
+    ap (drop (8 - k)) (high_first 8 n ∙ ap (λ m. bytes_of m n) all) ∙ past_high (8 - k) k n
 
 pub length_bytes_of : (k n : ℕ) → length (bytes_of k n) ≡ k
 unfolding bytes_of
 length_bytes_of zero n = refl
 length_bytes_of (suc k) n = ap suc (length_bytes_of k n)
 
--- bytes written after what stands before them
-pub written_after :
-    (k : ℕ) (front back bytes : List ℕ) (at : ℕ)
-    → length front ≡ at
-    → take at (front ++ back) ++ bytes ++ drop (at + k) (front ++ back) ≡ (front ++ bytes) ++ drop k back
-written_after k front back bytes at e =
-    ap₂ (λ x y. x ++ bytes ++ y) (take_at front back at e)
-    (sym (drop-drop k at (front ++ back)) ∙ ap (drop k) (drop_at front back at e))
-
--- two halves written one behind the other
-pub eight_stored :
-    (l l₁ l₂ : List ℕ) (at n : ℕ)
-    → at + 8 ≤ length l
-    → l₁ ≡ take at l ++ bytes_of 4 (n / 4294967296) ++ drop (at + 4) l
-    → l₂ ≡ take (at + 4) l₁ ++ bytes_of 4 (n % 4294967296) ++ drop (at + 4 + 4) l₁
-    → l₂ ≡ take at l ++ bytes_of 8 n ++ drop (at + 8) l
-eight_stored l l₁ l₂ at n within first second =
-    let high = bytes_of 4 (n / 4294967296) in
-    let low = bytes_of 4 (n % 4294967296) in
-    let front = take at l ++ high in
-    let long : length front ≡ at + 4 =
-    length-append (take at l) high ∙ ap₂ (λ a b. a + b) (length-take-le at l (omega arith)) (length_bytes_of 4 (n / 4294967296)) in
-    let past : at + 4 + 4 ≡ at + 8 = omega arith in
-    second
-    ∙ ap (λ x. take (at + 4) x ++ low ++ drop (at + 4 + 4) x) first
-    ∙ written_after 4 front (drop (at + 4) l) low (at + 4) long
-    ∙ ap₂ ◌++◌ (append_assoc (take at l) high low ∙ ap (λ x. take at l ++ x) (eight_bytes n)) (drop-drop 4 (at + 4) l ∙ ap (λ k. drop k l) past)
+-- the last bytes of a number in the place of as many of a buffer
+pub number_written :
+    (l part : List ℕ) (at k n : ℕ)
+    → k ≤ 8
+    → part ≡ take (8 - (8 - k)) (drop (8 - k) (bytes_high_first 8 n))
+    → put_mid at (at + k - at) l part ≡ take at l ++ bytes_of k n ++ drop (at + k) l
+number_written l part at k n few is =
+    let count : at + k - at ≡ k = omega arith in
+    let all : 8 - (8 - k) ≡ length (bytes_of k n) = omega (arith, length_bytes_of k n) in
+    let bytes : part ≡ bytes_of k n =
+    is ∙ ap₂ take all (last_bytes k n few) ∙ take-length (bytes_of k n) in
+    ap₂ (λ m bytes. take at l ++ (bytes ++ drop m (drop at l))) count bytes
+    ∙ ap (λ rest. take at l ++ (bytes_of k n ++ rest)) (drop-drop k at l)
+    ∙ sym (append_assoc (take at l) (bytes_of k n) (drop (at + k) l))

@@ -1,47 +1,27 @@
-// Numbers in a buffer, high byte first.
-ghost use Rattle.std.specs.Prelude.{◌≡◌, ◌++◌, ◌+◌, take, drop};
+// Numbers in a buffer, high byte first. How many bytes a number has is a parameter, so that one function reads the numbers of every width and one writes
+// them.
+ghost use Rattle.std.specs.Prelude.{◌≡◌, ◌++◌, ◌+◌, ◌^◌, ◌<◌, ◌≤◌, take, drop};
 ghost use Rattle.numbers.specs.Bytes.{number_of, bytes_of};
 ghost use Rattle.numbers.specs.Bounds.{BytesAt};
 
-pub fn read_u16(buffer: &[u8], at: usize) -> u16
-    requires { BytesAt buffer.now at 2 }
-    ensures { result ≡ number_of (take 2 (drop at buffer.now)) }
+// The number in the N bytes from a place on.
+pub fn read_number<const N: usize>(buffer: &[u8], at: usize) -> u64
+    requires few { N ≤ 8 }
+    requires within { BytesAt buffer.now at N }
+    ensures number { result ≡ number_of (take N (drop at buffer.now)) }
+    ensures fits { result < 256 ^ N }
 {
-    (buffer[at] as u16) * 256 + (buffer[at + 1] as u16)
+    let mut bytes = [0u8; 8];
+    bytes[8 - N..].copy_from_slice(&buffer[at..at + N]);
+    u64::from_be_bytes(bytes)
 }
 
-pub fn read_u32(buffer: &[u8], at: usize) -> u32
-    requires { BytesAt buffer.now at 4 }
-    ensures { result ≡ number_of (take 4 (drop at buffer.now)) }
+// Writes the last N bytes of a number from a place on.
+pub fn write_number<const N: usize>(buffer: &mut [u8], at: usize, number: u64)
+    requires few { N ≤ 8 }
+    requires within { BytesAt buffer.old at N }
+    ensures { buffer.new ≡ take at buffer.old ++ bytes_of N number ++ drop (at + N) buffer.old }
 {
-    let high = read_u16(buffer, at) as u32;
-    let low = read_u16(buffer, at + 2) as u32;
-    high * 65536 + low
-}
-
-pub fn read_u64(buffer: &[u8], at: usize) -> u64
-    requires { BytesAt buffer.now at 8 }
-    ensures { result ≡ number_of (take 8 (drop at buffer.now)) }
-{
-    let high = read_u32(buffer, at) as u64;
-    let low = read_u32(buffer, at + 4) as u64;
-    high * 4294967296 + low
-}
-
-pub fn write_u32(buffer: &mut [u8], at: usize, number: u32)
-    requires { BytesAt buffer.old at 4 }
-    ensures { buffer.new ≡ take at buffer.old ++ bytes_of 4 number ++ drop (at + 4) buffer.old }
-{
-    buffer[at] = (number / 16777216) as u8;
-    buffer[at + 1] = (number / 65536 % 256) as u8;
-    buffer[at + 2] = (number / 256 % 256) as u8;
-    buffer[at + 3] = (number % 256) as u8;
-}
-
-pub fn write_u64(buffer: &mut [u8], at: usize, number: u64)
-    requires { BytesAt buffer.old at 8 }
-    ensures { buffer.new ≡ take at buffer.old ++ bytes_of 8 number ++ drop (at + 8) buffer.old }
-{
-    write_u32(buffer, at, (number / 4294967296) as u32);
-    write_u32(buffer, at + 4, (number % 4294967296) as u32);
+    let bytes = number.to_be_bytes();
+    buffer[at..at + N].copy_from_slice(&bytes[8 - N..]);
 }

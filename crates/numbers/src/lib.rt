@@ -1,6 +1,5 @@
-// Numbers: their bytes in a buffer, and the smaller and the larger of two.
+// Numbers: their bytes in a buffer.
 
 #![tactic(auto)]
 
 pub mod bytes;
-pub mod order;

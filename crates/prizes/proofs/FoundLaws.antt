@@ -1,25 +1,22 @@
 -- Laws on the pass over a ticket's ways: what its calls add one after the other is what the ways add together, and room for the whole is room for
 -- each; what it carries to the end is what a way takes of the groups; and over all groups it finds the prizes that the rule names.
-use Prim.Native.Nat.{ℕ, zero, suc, ◌+◌, ◌*◌, ◌-◌, ◌/◌, ◌%◌, ◌≤◌, ◌<◌, ◌^◌}
+use Prim.Native.Nat.{ℕ, suc, ◌+◌, ◌*◌, ◌-◌, ◌/◌, ◌%◌, ◌≤◌, ◌<◌, ◌^◌}
 use mathlib.Core.Path.{◌≡◌, refl, sym, ap, ap₂, ◌∙◌, subst}
 use mathlib.Core.Bool.{Bool, true, false, cond}
 use mathlib.Core.List.{List, [], ◌∷◌, ◌++◌, map, map-map, map-append}
 use native.Mathlib.Nat.{zero-add, add-zero, add-suc, suc-add, mul_comm, mul-add, mul_assoc, mul-le-mul_right, pos_of_ne-zero}
 use native.Mathlib.Omega.{arith}
 use lib.Dec.{eqb}
-use lib.ListN.{length, drop, get_or, set, length-append, length-map, length-set, length-drop}
-use lib.Seq.{sets, drop-length, drop-cons, get_or-set_same, get_or-set_other, get_or-drop}
-use borrow.Author.Tests.{leb-true, leb-false}
+use lib.ListN.{length, drop, get_or, set, length-append, length-map, length-drop}
+use lib.Seq.{sets, get_or-drop}
 use Rattle.sale.specs.Lists.{sum, keep}
-use Rattle.sale.specs.Kinds.{kind_of, kind_number}
 use Rattle.sale.specs.Ways.{ways, mask_sum}
 use Rattle.prizes.specs.Prize.{major_floor, is_major, prize}
 use Rattle.prizes.specs.Settle.{prizes_by, full_by}
 use Rattle.sale.specs.Passes.{ways_from}
-use Rattle.prizes.specs.Found.{size_in, hits_in, group_sizes, group_hits, Groups, Carries, WalkOf, prize_in, pairs_from, sure_of, majors_among, Room, Joined, JoinedWays, FoundWith}
-use Rattle.sale.specs.declared.terms.Kind.{Kind}
-use Rattle.sale.specs.declared.terms.Kind.TheVariants.{Standard, Jackpot, Special}
-use Rattle.sale.specs.declared.terms.Schedule.TheVariants.{One, Two}
+use Rattle.prizes.specs.Found.{size_in, hits_in, group_sizes, group_hits, Groups, Carries, prize_in, pairs_from, sure_of, majors_among, Room, Behind, JoinedWays, FoundWith}
+use Rattle.prizes.specs.declared.found.Found.{Found}
+use Rattle.prizes.specs.declared.majors.Majors.{Majors}
 use Rattle.sale.specs.declared.terms.Terms.{Terms}
 use Rattle.sale.proofs.KeepLaws.{keep_append, length_keep_le, sum_within}
 use Rattle.sale.proofs.WayLaws.{sum_append, keep_map, ways_few, next, mask_sum_none, mask_sum_with, mask_sum_without}
@@ -33,64 +30,33 @@ sets_append (x ∷ xs) ys l i =
     ap (λ (n : ℕ). sets (sets (set l i x) (suc i) xs) n ys) (add-suc i (length xs) ∙ sym (suc-add i (length xs)))
     ∙ sets_append xs ys (set l i x) (suc i)
 
-module _ {a b c d : ℕ} {these those found majors found₁ majors₁ found₂ majors₂ : List ℕ} where
-  pub joined_both : Joined a b these found majors found₁ majors₁ → Joined c d those found₁ majors₁ found₂ majors₂
-      → Joined (a + c) (b + d) (these ++ those) found majors found₂ majors₂
-  joined_both j k =
-      record {
-        sure = omega (arith, j.sure, k.sure);
-        full = omega (arith, j.full, k.full);
-        count = omega (arith, j.count, k.count, length-append these those);
-        stored =
-            k.stored ∙ ap₂ (λ (l : List ℕ) (n : ℕ). sets l n those) j.stored j.count
-            ∙ sets_append these those majors (get_or found 2 0);
-      }
-
--- the stores of the code
-module _ (found majors : List ℕ) where
-  abbrev once : ℕ → List ℕ
-  once cents = set found 0 (get_or found 0 0 + cents)
-
-  pub two_stores : (cents matches : ℕ) → length found ≡ 3
-      → Joined cents matches [] found majors (set (once cents) 1 (get_or (once cents) 1 0 + matches)) majors
-  two_stores cents matches long =
-      record {
-        sure =
-            get_or-set_other (once cents) 1 0 (get_or (once cents) 1 0 + matches) 0 (λ e. omega arith)
-            ∙ get_or-set_same found 0 (get_or found 0 0 + cents) 0 (omega arith);
-        full =
-            get_or-set_same (once cents) 1 (get_or (once cents) 1 0 + matches) 0 (simp length-set (omega arith))
-            ∙ ap (λ n. n + matches) (get_or-set_other found 0 1 (get_or found 0 0 + cents) 0 (λ e. omega arith));
-        count =
-            get_or-set_other (once cents) 1 2 (get_or (once cents) 1 0 + matches) 0 (λ e. omega arith)
-            ∙ get_or-set_other found 0 2 (get_or found 0 0 + cents) 0 (λ e. omega arith) ∙ sym (add-zero (get_or found 2 0));
-        stored = refl;
-      }
-
-  pub one_stored : (cents : ℕ) {after : List ℕ} → length found ≡ 3 → after ≡ set majors (get_or found 2 0) cents
-      → Joined 0 0 (cents ∷ []) found majors (set found 2 (get_or found 2 0 + 1)) after
-  one_stored cents long e =
-      record {
-        sure = get_or-set_other found 2 0 (get_or found 2 0 + 1) 0 (λ q. omega arith) ∙ sym (add-zero (get_or found 0 0));
-        full = get_or-set_other found 2 1 (get_or found 2 0 + 1) 0 (λ q. omega arith) ∙ sym (add-zero (get_or found 1 0));
-        count = get_or-set_same found 2 (get_or found 2 0 + 1) 0 (omega arith);
-        stored = e;
-      }
+pub behind_both : {these those : List ℕ} {majors majors₁ majors₂ : Majors} → Behind these majors majors₁ → Behind those majors₁ majors₂ → Behind (these ++ those) majors majors₂
+behind_both {these} {those} {majors} b k =
+    record {
+      count = omega (arith, b.count, k.count, length-append these those);
+      stored =
+          k.stored ∙ ap₂ (λ (l : List ℕ) (n : ℕ). sets l n those) b.stored b.count
+          ∙ sets_append these those majors.prizes majors.count;
+    }
 
 -- ---- the figures of ways
 
-module _ (kind : Kind) (stake : ℕ) where
+module _ (t : Terms) where
   abbrev sure_cents : List ℕ → ℕ
-  sure_cents pairs = sum (map (λ x. sure_of (prize_in kind stake x)) pairs)
+  sure_cents pairs = sum (map (λ x. sure_of (prize_in t.kind t.stake x)) pairs)
 
   abbrev full_count : List ℕ → ℕ
   full_count pairs = length (keep (λ x. eqb (hits_in x) (size_in x)) pairs)
 
-  pub no_ways : (found majors : List ℕ) → JoinedWays kind stake [] found majors found majors
-  unfolding sum keep
-  no_ways found majors = record { sure = omega arith; full = omega arith; count = omega arith; stored = refl }
+  abbrev majors_in : List ℕ → List ℕ
+  majors_in pairs = majors_among t.kind t.stake pairs
 
-  -- one way
+  pub no_ways : (found : Found) (majors : Majors) → JoinedWays t [] found majors found majors
+  unfolding sum keep
+  no_ways found majors =
+      record { sure = omega arith; full = omega arith; behind = record { count = omega arith; stored = refl } }
+
+  -- one way: it is a major prize or not
   module _ (pair : ℕ) where
     abbrev full_one : ℕ
     full_one = cond (eqb (hits_in pair) (size_in pair)) 1 0
@@ -99,97 +65,78 @@ module _ (kind : Kind) (stake : ℕ) where
     unfolding keep
     one_full = go (eqb (hits_in pair) (size_in pair))
       where
-        go : (t : Bool) → length (cond t (pair ∷ []) []) ≡ cond t 1 0
+        go : (b : Bool) → length (cond b (pair ∷ []) []) ≡ cond b 1 0
         go true = refl
         go false = refl
 
-    one_sure : (n : ℕ) → sure_of (prize_in kind stake pair) ≡ n → sure_cents (pair ∷ []) ≡ n
-    unfolding sum
-    one_sure n e = omega arith
+    pub way_added : (found : Found) {found' : Found} {sure full : ℕ} → found' ≡ record { sure = found.sure + sure; full = found.full + full }
+        → sure ≡ sure_of (prize_in t.kind t.stake pair) → full ≡ full_one
+        → found' ≡ record { sure = found.sure + sure_of (prize_in t.kind t.stake pair); full = found.full + full_one }
+    way_added found e s f = e ∙ (λ i. record { sure = found.sure + s i; full = found.full + f i })
 
-    module _ {found majors found₁ majors₁ : List ℕ} where
-      pub way_minor : is_major (prize_in kind stake pair) ≡ false
-          → Joined (prize_in kind stake pair) full_one [] found majors found₁ majors₁
-          → JoinedWays kind stake (pair ∷ []) found majors found₁ majors₁
-      unfolding keep
-      way_minor minor j =
-          let none : majors_among kind stake (pair ∷ []) ≡ [] = rw minor in
-          let small : sure_of (prize_in kind stake pair) ≡ prize_in kind stake pair = omega (arith, leb-false major_floor (prize_in kind stake pair) minor) in
-          rw (one_full, one_sure (prize_in kind stake pair) small, none) j
+    module _ {found : Found} {majors : Majors} {found' : Found}
+        (added : found' ≡ record { sure = found.sure + sure_of (prize_in t.kind t.stake pair); full = found.full + full_one }) where
+      one_joined : {these : List ℕ} {majors' : Majors} → majors_in (pair ∷ []) ≡ these → Behind these majors majors'
+          → JoinedWays t (pair ∷ []) found majors found' majors'
+      unfolding sum
+      one_joined {these} {majors'} same b =
+          record {
+            sure = ap (λ (x : Found). x.sure) added ∙ ap (λ n. found.sure + n) (sym (add-zero (sure_of (prize_in t.kind t.stake pair))));
+            full = ap (λ (x : Found). x.full) added ∙ ap (λ n. found.full + n) (sym one_full);
+            behind = subst (λ (l : List ℕ). Behind l majors majors') (sym same) b;
+          }
 
-      pub way_major : {found₂ majors₂ : List ℕ} → is_major (prize_in kind stake pair) ≡ true
-          → Joined major_floor full_one [] found majors found₁ majors₁
-          → Joined 0 0 (prize_in kind stake pair ∷ []) found₁ majors₁ found₂ majors₂
-          → JoinedWays kind stake (pair ∷ []) found majors found₂ majors₂
+      pub way_minor : is_major (prize_in t.kind t.stake pair) ≡ false → JoinedWays t (pair ∷ []) found majors found' majors
       unfolding keep
-      way_major major j k =
-          let some : majors_among kind stake (pair ∷ []) ≡ prize_in kind stake pair ∷ [] = rw major in
-          let large : sure_of (prize_in kind stake pair) ≡ major_floor + 0 = omega (arith, leb-true major_floor (prize_in kind stake pair) major) in
-          rw (one_full ∙ sym (add-zero full_one), one_sure (major_floor + 0) large, some) (joined_both j k)
+      way_minor minor =
+          let none : majors_in (pair ∷ []) ≡ [] = rw minor in
+          one_joined none (record { count = omega arith; stored = refl })
+
+      pub way_major : {majors' : Majors} → is_major (prize_in t.kind t.stake pair) ≡ true
+          → majors'.count ≡ majors.count + 1 → majors'.prizes ≡ set majors.prizes majors.count (prize_in t.kind t.stake pair)
+          → JoinedWays t (pair ∷ []) found majors found' majors'
+      unfolding keep
+      way_major major count stored =
+          let some : majors_in (pair ∷ []) ≡ prize_in t.kind t.stake pair ∷ [] = rw major in
+          one_joined some (record { count = count; stored = stored })
 
   -- the ways of two calls
-  module _ (xs ys : List ℕ) {found majors found₁ majors₁ : List ℕ} (j : JoinedWays kind stake xs found majors found₁ majors₁) where
-    pub ways_both : {found₂ majors₂ : List ℕ} → JoinedWays kind stake ys found₁ majors₁ found₂ majors₂
-        → JoinedWays kind stake (xs ++ ys) found majors found₂ majors₂
-    ways_both k =
+  module _ (xs ys : List ℕ) {found found₁ : Found} {majors majors₁ : Majors} (j : JoinedWays t xs found majors found₁ majors₁) where
+    pub ways_both : {found₂ : Found} {majors₂ : Majors} → JoinedWays t ys found₁ majors₁ found₂ majors₂ → JoinedWays t (xs ++ ys) found majors found₂ majors₂
+    ways_both {majors₂ = majors₂} k =
         let cents : sure_cents (xs ++ ys) ≡ sure_cents xs + sure_cents ys =
-        ap sum (map-append (λ x. sure_of (prize_in kind stake x)) xs ys)
-        ∙ sum_append (map (λ x. sure_of (prize_in kind stake x)) xs) (map (λ x. sure_of (prize_in kind stake x)) ys) in
+        ap sum (map-append (λ x. sure_of (prize_in t.kind t.stake x)) xs ys)
+        ∙ sum_append (map (λ x. sure_of (prize_in t.kind t.stake x)) xs) (map (λ x. sure_of (prize_in t.kind t.stake x)) ys) in
         let matches : full_count (xs ++ ys) ≡ full_count xs + full_count ys =
         ap length (keep_append (λ x. eqb (hits_in x) (size_in x)) xs ys)
         ∙ length-append (keep (λ x. eqb (hits_in x) (size_in x)) xs) (keep (λ x. eqb (hits_in x) (size_in x)) ys) in
-        let these : majors_among kind stake (xs ++ ys) ≡ majors_among kind stake xs ++ majors_among kind stake ys =
-        ap (keep is_major) (map-append (prize_in kind stake) xs ys)
-        ∙ keep_append is_major (map (prize_in kind stake) xs) (map (prize_in kind stake) ys) in
-        rw (cents, matches, these) (joined_both j k)
+        let these : majors_in (xs ++ ys) ≡ majors_in xs ++ majors_in ys =
+        ap (keep is_major) (map-append (prize_in t.kind t.stake) xs ys)
+        ∙ keep_append is_major (map (prize_in t.kind t.stake) xs) (map (prize_in t.kind t.stake) ys) in
+        record {
+          sure = omega (arith, j.sure, k.sure, cents);
+          full = omega (arith, j.full, k.full, matches);
+          behind = subst (λ (l : List ℕ). Behind l majors majors₂) (sym these) (behind_both j.behind k.behind);
+        }
 
     -- room for both is room for the second once the first are added
-    pub room_second : Room (length (xs ++ ys)) found → Room (length ys) found₁
+    pub room_second : Room (length (xs ++ ys)) found majors.count → Room (length ys) found₁ majors₁.count
     room_second r =
-        let cents : sure_cents xs ≤ length xs * major_floor = sum_within (λ x. sure_of (prize_in kind stake x)) major_floor xs (λ x m. omega arith) in
+        let cents : sure_cents xs ≤ length xs * major_floor = sum_within (λ x. sure_of (prize_in t.kind t.stake x)) major_floor xs (λ x m. omega arith) in
         let matches : full_count xs ≤ length xs = length_keep_le (λ x. eqb (hits_in x) (size_in x)) xs in
-        let these : length (majors_among kind stake xs) ≤ length (map (prize_in kind stake) xs) = length_keep_le is_major (map (prize_in kind stake) xs) in
+        let these : length (majors_in xs) ≤ length (map (prize_in t.kind t.stake) xs) = length_keep_le is_major (map (prize_in t.kind t.stake) xs) in
         record {
           sure = omega (arith, r.sure, j.sure, length-append xs ys, mul_comm (length xs) major_floor);
           full = omega (arith, r.full, j.full, length-append xs ys);
-          majors = omega (arith, r.majors, j.count, length-append xs ys, length-map xs (prize_in kind stake));
+          majors = omega (arith, r.majors, j.behind.count, length-append xs ys, length-map xs (prize_in t.kind t.stake));
         }
 
-pub room_first : (xs ys : List ℕ) {found : List ℕ} → Room (length (xs ++ ys)) found → Room (length xs) found
+pub room_first : (xs ys : List ℕ) {found : Found} {count : ℕ} → Room (length (xs ++ ys)) found count → Room (length xs) found count
 room_first xs ys r =
     record {
       sure = omega (arith, r.sure, length-append xs ys);
       full = omega (arith, r.full, length-append xs ys);
       majors = omega (arith, r.majors, length-append xs ys);
-    }
-
--- ---- what the walk is lent
-
--- the elements of a table from a place on, so many of them
-abbrev pub listed : ℕ → ℕ → List ℕ → List ℕ
-listed zero i table = []
-listed (suc n) i table = get_or table i 0 ∷ listed n (suc i) table
-
-listed_drop : (n i : ℕ) (table : List ℕ) → length table ≡ i + n → listed n i table ≡ drop i table
-listed_drop zero i table e = sym (ap (λ k. drop k table) (sym (add-zero i) ∙ sym e) ∙ drop-length table)
-listed_drop (suc n) i table e =
-    ap (λ (l : List ℕ). get_or table i 0 ∷ l) (listed_drop n (suc i) table (omega arith)) ∙ sym (drop-cons table i 0 (omega arith))
-
-kind_number_lem : (kind : Kind) → kind_of (kind_number kind % 256) ≡ kind
-unfolding kind_of
-kind_number_lem Standard = refl
-kind_number_lem Jackpot = refl
-kind_number_lem (Special One) = refl
-kind_number_lem (Special Two) = refl
-
-pub walk_of : (t : Terms) (groups : List ℕ) {number : ℕ} → t.types < 256 → number ≡ kind_number t.kind → Groups groups
-    → WalkOf t groups (t.stake ∷ t.types ∷ number ∷ listed 9 0 groups)
-walk_of t groups byte e g =
-    record {
-      stake = refl;
-      types = omega arith;
-      kind = ap (λ n. kind_of (n % 256)) e ∙ kind_number_lem t.kind;
-      groups = listed_drop 9 0 groups g.long;
     }
 
 -- ---- what the walk carries
@@ -295,23 +242,21 @@ module _ (t : Terms) (table : List ℕ) (g : Groups table) where
   found_sure = ap sum (sym (map-map sure_of (prize_in t.kind t.stake) all) ∙ ap (map sure_of) found_prizes)
 
   -- so that what it finds is what the rule names
-  pub found_with : (before : ℕ) {majors found' majors' : List ℕ}
-      → JoinedWays t.kind t.stake (pairs_from t.types table t.groups 0) (0 ∷ 0 ∷ before ∷ []) majors found' majors'
-      → FoundWith t (group_sizes table) (group_hits table) before majors
-      (record { sure = get_or found' 0 0; full = get_or found' 1 0; majors = get_or found' 2 0 }) majors'
-  found_with before {majors} j =
+  pub found_with : {majors : Majors} {found' : Found} {majors' : Majors}
+      → JoinedWays t (pairs_from t.types table t.groups 0) (record { sure = 0; full = 0 }) majors found' majors'
+      → FoundWith t (group_sizes table) (group_hits table) majors found' majors'
+  found_with {majors} {found'} {majors'} j =
       record {
         found =
             λ i. record {
               sure = (j.sure ∙ zero-add (sum (map (λ x. sure_of (prize_in t.kind t.stake x)) all)) ∙ found_sure) i;
               full = (j.full ∙ zero-add (length (keep (λ x. eqb (hits_in x) (size_in x)) all)) ∙ found_full) i;
-              majors = (j.count ∙ ap (λ (l : List ℕ). before + length (keep is_major l)) found_prizes) i;
             };
-        stored = j.stored ∙ ap (λ (l : List ℕ). sets majors before (keep is_major l)) found_prizes;
+        behind = subst (λ (l : List ℕ). Behind (keep is_major l) majors majors') found_prizes j.behind;
       }
 
 -- a ticket has no more ways than there are masks
-pub start_room : (g types before : ℕ) → g ≤ 8 → before < 2 ^ 32 → Room (length (ways_from types g 0)) (0 ∷ 0 ∷ before ∷ [])
+pub start_room : (g types before : ℕ) → g ≤ 8 → before < 2 ^ 32 → Room (length (ways_from types g 0)) (record { sure = 0; full = 0 }) before
 start_room g types before few small =
     let ways_le : length (ways_from types g 0) ≤ 255 = subst (λ (l : List ℕ). length l ≤ 255) (sym (ways_from_ways g types)) (ways_few types few) in
     record { sure = omega arith; full = omega arith; majors = omega arith }

@@ -8,6 +8,8 @@ use native.Mathlib.Omega.{arith}
 use lib.Dec.{eqb}
 use lib.ListN.{length, get_or, take, drop, length-append, length-take, length-map, get_or-eq_default, get_or-map}
 use lib.Seq.{take_all, take-suc}
+use Rattle.std.specs.Int.{w64, byte_at, bytes_low_first, to_le_bytes}
+use Rattle.std.proofs.Math.Nat.{div-div-eq-div-mul, pow-suc}
 use Rattle.sale.specs.Lists.{keep}
 use Rattle.sale.specs.Ways.{mark_of, size_of, by_group, size_word}
 use Rattle.prizes.specs.Hits.{hits_of, hits}
@@ -125,6 +127,40 @@ module _ (marks balls : List ℕ) where
   drawn_all twenty d = d.counts ∙ ap (λ (l : List ℕ). count_word (map (mark_of marks) l)) (take_all 20 balls (omega arith))
 
 -- ---- the table of groups
+
+-- std's bytes of a word are these
+byte_std : (i word : ℕ) → byte_at i word ≡ word / 256 ^ i % 256
+byte_std zero word = omega arith
+byte_std (suc i) word = refl
+
+bytes_std : (k i word : ℕ) → bytes_low_first i k word ≡ word_bytes k (word / 256 ^ i)
+bytes_std zero i word = refl
+bytes_std (suc k) i word =
+    let next : word / 256 ^ i / 256 ≡ word / 256 ^ suc i = div-div-eq-div-mul word (256 ^ i) 256 ∙ ap (λ n. word / n) (sym (pow-suc 256 i)) in
+    ap₂ (λ n (l : List ℕ). n ∷ l) (byte_std i word) (bytes_std k (suc i) word ∙ ap (word_bytes k) (sym next))
+
+pub word_bytes_std : (word : ℕ) → to_le_bytes w64 word ≡ word_bytes 8 word
+word_bytes_std word = bytes_std 8 0 word ∙ ap (word_bytes 8) (omega arith)
+
+-- pairs of them, place by place
+pub pairs_at : (sizes hits : ℕ) {size hit : List ℕ} → size ≡ to_le_bytes w64 sizes → hit ≡ to_le_bytes w64 hits
+    → {p₁ p₂ p₃ p₄ p₅ p₆ p₇ p₈ : ℕ}
+    → p₁ ≡ get_or size 0 0 * 4096 + get_or hit 0 0
+    → p₂ ≡ get_or size 1 0 * 4096 + get_or hit 1 0
+    → p₃ ≡ get_or size 2 0 * 4096 + get_or hit 2 0
+    → p₄ ≡ get_or size 3 0 * 4096 + get_or hit 3 0
+    → p₅ ≡ get_or size 4 0 * 4096 + get_or hit 4 0
+    → p₆ ≡ get_or size 5 0 * 4096 + get_or hit 5 0
+    → p₇ ≡ get_or size 6 0 * 4096 + get_or hit 6 0
+    → p₈ ≡ get_or size 7 0 * 4096 + get_or hit 7 0
+    → 0 ∷ p₁ ∷ p₂ ∷ p₃ ∷ p₄ ∷ p₅ ∷ p₆ ∷ p₇ ∷ p₈ ∷ [] ≡ group_table sizes hits
+unfolding zip_with
+pairs_at sizes hits s h e₁ e₂ e₃ e₄ e₅ e₆ e₇ e₈ =
+    (λ i. 0 ∷ e₁ i ∷ e₂ i ∷ e₃ i ∷ e₄ i ∷ e₅ i ∷ e₆ i ∷ e₇ i ∷ e₈ i ∷ [])
+    ∙ ap₂ (λ (xs ys : List ℕ). 0 ∷ zip_with (λ size hit. size * 4096 + hit) (eight xs) (eight ys)) (s ∙ word_bytes_std sizes) (h ∙ word_bytes_std hits)
+  where
+    eight : List ℕ → List ℕ
+    eight xs = get_or xs 0 0 ∷ get_or xs 1 0 ∷ get_or xs 2 0 ∷ get_or xs 3 0 ∷ get_or xs 4 0 ∷ get_or xs 5 0 ∷ get_or xs 6 0 ∷ get_or xs 7 0 ∷ []
 
 abbrev paired : List ℕ → List ℕ → List ℕ
 paired xs ys = zip_with (λ size hits. size * 4096 + hits) xs ys

@@ -1,188 +1,174 @@
--- The major prizes in a table: a part of the table element by element, as a loop passes it; the figures of a round, which follow the rule; and the
--- state that its rounds end in, which pays what the rule pays. A member of ps is a `List.Memᴰ p ps`.
+-- The major prizes of a game: what a loop over them has so far, with one prize more; a list that stays one of major prizes when another is pushed; the
+-- figures of a round, which follow the rule; and the state that its rounds end in, which pays what the rule pays. A member of ps is a `List.Memᴰ p ps`.
 use mathlib.Core.Path.{◌≡◌, refl, sym, ap, ◌∙◌, subst}
-use mathlib.Core.List.{List, [], ◌∷◌, map, Memᴰ}
+use mathlib.Core.Logic.{◌⊎◌, inl, inr}
+use mathlib.Core.List.Memᴰ
+use mathlib.Core.List.{List, [], ◌∷◌, ◌++◌, map, map-append, Memᴰ}
 use Prim.Native.Nat.{ℕ, zero, suc, ◌+◌, ◌*◌, ◌≤◌, ◌<◌, ◌^◌}
-use native.Mathlib.Nat.{le_of_suc-le-suc, mul-div_cancel, le_trans, mul-le-mul_right, le_of_lt, zero-add}
+use native.Mathlib.Nat.{add-zero, le_of_suc-le-suc, mul-div_cancel, le_trans, mul-le-mul_right, le_of_lt}
 use native.Mathlib.Numerals.{add-one}
 use native.Mathlib.Omega.{arith}
 use lib.Dec.{ltb, leb}
-use lib.ListN.{length, take, drop, get_or, length-take, length-drop, drop_of_length-le}
-use lib.Seq.{drop-cons, get_or-take, get_or-drop}
+use lib.ListN.{length, take, drop, get_or, set, length-append, length-take}
+use Rattle.std.proofs.lemmas.List.{map-id, take-append-drop}
+use Rattle.std.proofs.lemmas.List.Recursion.{is_sum_by}
+use Rattle.std.specs.List as List_std
+use lib.Seq.{take_all, take-suc, take-suc-set}
 use borrow.Author.Tests.{lt-ltb, le-ltb, le-leb, lt-leb}
 use Rattle.sale.specs.Lists.{sum, keep}
 use Rattle.prizes.specs.Prize.{major_floor}
 use Rattle.prizes.specs.Cut.{majors_limit}
-use Rattle.prizes.specs.Rounds.{first_cut, uncut, pay_under, next_below, cut_below, Pays, Listed}
+use Rattle.prizes.specs.Rounds.{first_cut, uncut, pay_under, next_below, cut_below, Pays, IsMajorPrize, Listed}
 use Rattle.prizes.specs.declared.cut.Cut.{Cut}
-use Rattle.sale.proofs.KeepLaws.{length_keep_le, sum_within, sum_keep_split, member_le_sum}
+use Rattle.sale.proofs.KeepLaws.{keep_append, length_keep_le, sum_within, sum_keep_split, member_le_sum}
+use Rattle.sale.proofs.WayLaws.{sum_append}
 use Rattle.prizes.proofs.CutPayouts.{payout_uncut}
 use Rattle.prizes.proofs.CutStates.{StateOf, next_cut, state_first, state_step, state_pays, next_count_grows, next_count_le}
 
--- ---- a part of a table
-
-member_at : (xs : List ℕ) (i : ℕ) → i < length xs → Memᴰ (get_or xs i 0) xs
+-- an element is a member
+pub member_at : (xs : List ℕ) (i : ℕ) → i < length xs → Memᴰ (get_or xs i 0) xs
 member_at [] i h = absurd (omega arith)
 member_at (x ∷ xs) zero h = Memᴰ.head refl
 member_at (x ∷ xs) (suc i) h = Memᴰ.tail (member_at xs i (le_of_suc-le-suc h))
 
-module _ (table : List ℕ) (from many : ℕ) (inside : from + many ≤ length table) where
-  abbrev part : List ℕ
-  part = take many (drop from table)
+-- ---- loops over a list, by the part that they have passed
 
-  pub part_length : length (take many (drop from table)) ≡ many
-  part_length = length-take many (drop from table) ∙ omega (arith, length-drop from table)
+take_more : (xs : List ℕ) (i : ℕ) → i < length xs → take (i + 1) xs ≡ take i xs ++ (get_or xs i 0 ∷ [])
+take_more xs i h = rw add-one (take-suc xs i 0 h)
 
-  part_at : (i : ℕ) → i < many → get_or part i 0 ≡ get_or table (from + i) 0
-  part_at i h = get_or-take many (drop from table) i 0 h ∙ get_or-drop from table i 0
-
-  pub part_next : (i : ℕ) → i < many → drop i (take many (drop from table)) ≡ get_or table (from + i) 0 ∷ drop (i + 1) (take many (drop from table))
-  part_next i h =
-      drop-cons part i 0 (omega (arith, part_length))
-      ∙ ap (λ (x : ℕ). x ∷ drop (suc i) part) (part_at i h)
-      ∙ ap (λ (n : ℕ). get_or table (from + i) 0 ∷ drop n part) (sym (add-one i))
-
-  pub part_member : (i : ℕ) → i < many → Memᴰ (get_or table (from + i) 0) (take many (drop from table))
-  part_member i h = subst (λ (x : ℕ). Memᴰ x part) (part_at i h) (member_at part i (omega (arith, part_length)))
-
-  pub part_end : (i : ℕ) → many ≤ i → drop i (take many (drop from table)) ≡ []
-  part_end i h = let past : length part ≤ i = omega (arith, part_length) in drop_of_length-le part past
-
-pub map_self : (xs : List ℕ) → map (λ x. x) xs ≡ xs
-map_self [] = refl
-map_self (x ∷ xs) = ap (λ (l : List ℕ). x ∷ l) (map_self xs)
-
--- ---- loops over a part
-
-sum_next : (f : ℕ → ℕ) (x : ℕ) {xs ys : List ℕ} → xs ≡ x ∷ ys → sum (map f xs) ≡ f x + sum (map f ys)
+sum_one : (x : ℕ) → sum (x ∷ []) ≡ x
 unfolding sum
-sum_next f x e = ap (λ (l : List ℕ). sum (map f l)) e
+sum_one x = add-zero x
 
-sum_done : (f : ℕ → ℕ) {xs : List ℕ} → xs ≡ [] → sum (map f xs) ≡ 0
+-- the rule book's sum is std's
+pub sum_std : (xs : List ℕ) → sum xs ≡ List_std.sum xs
 unfolding sum
-sum_done f e = ap (λ (l : List ℕ). sum (map f l)) e
+sum_std = is_sum_by sum (λ x. x) refl (λ _ _. refl)
 
--- a sum over the part after its first i: what is still ahead makes the whole
-module _ (f : ℕ → ℕ) (table : List ℕ) (from many : ℕ) where
-  abbrev whole : ℕ
-  whole = sum (map f (take many (drop from table)))
+pub sum_more : (f : ℕ → ℕ) (xs : List ℕ) (i : ℕ) → i < length xs → sum (map f (take (i + 1) xs)) ≡ sum (map f (take i xs)) + f (get_or xs i 0)
+sum_more f xs i h =
+    ap (λ (l : List ℕ). sum (map f l)) (take_more xs i h)
+    ∙ ap sum (map-append f (take i xs) (get_or xs i 0 ∷ []))
+    ∙ sum_append (map f (take i xs)) (f (get_or xs i 0) ∷ [])
+    ∙ ap (λ n. sum (map f (take i xs)) + n) (sum_one (f (get_or xs i 0)))
 
-  pub record Summed (i total : ℕ) : Type 0 where
-    pub within : i ≤ many
-    pub rest : total + sum (map f (drop i (take many (drop from table)))) ≡ sum (map f (take many (drop from table)))
+-- a part of a list, and what is more in it
+part_le : (f : ℕ → ℕ) (xs : List ℕ) (i : ℕ) → sum (map f (take i xs)) ≤ sum (map f xs)
+part_le f xs i =
+    omega (
+      arith,
+      ap (λ (l : List ℕ). sum (map f l)) (sym (take-append-drop i xs)) ∙ ap sum (map-append f (take i xs) (drop i xs))
+          ∙ sum_append (map f (take i xs)) (map f (drop i xs)),
+    )
 
-  pub summed_none : Summed 0 0
-  summed_none = record { within = omega arith; rest = omega arith }
+pub sum_more_le : (f : ℕ → ℕ) (xs : List ℕ) (i : ℕ) → i < length xs → sum (map f (take i xs)) + f (get_or xs i 0) ≤ sum (map f xs)
+sum_more_le f xs i h = omega (arith, sum_more f xs i h, part_le f xs (i + 1))
 
-  pub summed_more : from + many ≤ length table → {i total : ℕ} → Summed i total → i < many → Summed (i + 1) (total + f (get_or table (from + i) 0))
-  summed_more inside {i} s h =
-      record {
-        within = omega arith;
-        rest = omega (arith, s.rest, sum_next f (get_or table (from + i) 0) (part_next table from many inside i h));
-      }
+-- the figures of a round
+module _ (bound : ℕ) where
+  count_append : (xs ys : List ℕ) → (cut_below bound (xs ++ ys)).count ≡ (cut_below bound xs).count + (cut_below bound ys).count
+  count_append xs ys =
+      ap length (keep_append (λ p. ltb p bound) xs ys)
+      ∙ length-append (keep (λ p. ltb p bound) xs) (keep (λ p. ltb p bound) ys)
 
-  pub summed_le : {i total : ℕ} → Summed i total → total ≤ sum (map f (take many (drop from table)))
-  summed_le s = omega (arith, s.rest)
+  base_append : (xs ys : List ℕ) → (cut_below bound (xs ++ ys)).base ≡ (cut_below bound xs).base + (cut_below bound ys).base
+  base_append xs ys =
+      ap sum (keep_append (λ p. leb bound p) xs ys)
+      ∙ sum_append (keep (λ p. leb bound p) xs) (keep (λ p. leb bound p) ys)
 
-  pub summed_all : from + many ≤ length table → {i total : ℕ} → Summed i total → many ≤ i → total ≡ sum (map f (take many (drop from table)))
-  summed_all inside {i} s h = omega (arith, s.rest, sum_done f (part_end table from many inside i h))
+  floored_one : (x : ℕ) → x < bound → cut_below bound (x ∷ []) ≡ record { below = bound; count = 1; base = 0 }
+  unfolding keep sum
+  floored_one x h = rw (lt-ltb x bound h, lt-leb bound x h) refl
 
--- the figures of a round over the first prizes of a table, in the same way
-module _ (bound : ℕ) (table : List ℕ) (count : ℕ) where
-  abbrev ahead : ℕ → Cut
-  ahead i = cut_below bound (drop i (take count table))
+  shared_one : (x : ℕ) → bound ≤ x → cut_below bound (x ∷ []) ≡ record { below = bound; count = 0; base = x + 0 }
+  unfolding keep sum
+  shared_one x h = rw (le-ltb x bound h, le-leb bound x h) refl
 
-  abbrev all : Cut
-  all = cut_below bound (take count table)
+  module _ (xs : List ℕ) (i : ℕ) (inside : i < length xs) where
+    pub floored_more : get_or xs i 0 < bound →
+        ((cut_below bound (take (i + 1) xs)).count ≡ (cut_below bound (take i xs)).count + 1)
+        × ((cut_below bound (take (i + 1) xs)).base ≡ (cut_below bound (take i xs)).base)
+    floored_more h =
+        let one = floored_one (get_or xs i 0) h in
+        rw (take_more xs i inside) (
+          count_append (take i xs) (get_or xs i 0 ∷ []) ∙ ap (λ (c : Cut). (cut_below bound (take i xs)).count + c.count) one,
+          omega (arith, base_append (take i xs) (get_or xs i 0 ∷ []), ap (λ (c : Cut). c.base) one),
+        )
 
-  pub record Counted (i floored rest : ℕ) : Type 0 where
-    pub within : i ≤ count
-    pub below : floored + (ahead i).count ≡ all.count
-    pub above : rest + (ahead i).base ≡ all.base
+    pub shared_more : bound ≤ get_or xs i 0 →
+        ((cut_below bound (take (i + 1) xs)).count ≡ (cut_below bound (take i xs)).count)
+        × ((cut_below bound (take (i + 1) xs)).base ≡ (cut_below bound (take i xs)).base + get_or xs i 0)
+    shared_more h =
+        let one = shared_one (get_or xs i 0) h in
+        rw (take_more xs i inside) (
+          omega (arith, count_append (take i xs) (get_or xs i 0 ∷ []), ap (λ (c : Cut). c.count) one),
+          omega (arith, base_append (take i xs) (get_or xs i 0 ∷ []), ap (λ (c : Cut). c.base) one),
+        )
 
-  -- no more are floored than there are
-  pub floored_few : count ≤ length table → (cut_below bound (take count table)).count ≤ count
-  floored_few inside =
-      omega (arith, length_keep_le (λ p. ltb p bound) (take count table), part_length table 0 count (omega arith))
+  -- no more are floored than there are, and no more shared
+  pub count_le : (xs : List ℕ) → (cut_below bound xs).count ≤ length xs
+  count_le xs = length_keep_le (λ p. ltb p bound) xs
 
-  pub counted_none : Counted 0 0 0
-  counted_none = record { within = omega arith; below = omega arith; above = omega arith }
+  pub base_le : (xs : List ℕ) → (cut_below bound xs).base ≤ sum xs
+  base_le xs = omega (arith, sum_keep_split (λ p. leb bound p) xs)
 
-  module _ (inside : count ≤ length table) {i floored rest : ℕ} (s : Counted i floored rest) where
-    whole_part : 0 + count ≤ length table
-    whole_part = omega arith
+-- ---- one more prize
 
-    next_at : i < count → drop i (take count table) ≡ get_or table i 0 ∷ drop (i + 1) (take count table)
-    next_at h = part_next table 0 count whole_part i h ∙ ap (λ (n : ℕ). get_or table n 0 ∷ drop (i + 1) (take count table)) (zero-add i)
+-- a major prize behind others
+listed_end : (ps : List ℕ) (p : ℕ) → Listed ps → IsMajorPrize p → length ps < 250 → Listed (ps ++ (p ∷ []))
+listed_end ps p l major room =
+    record {
+      few = omega (arith, length-append ps (p ∷ []));
+      each = λ q m. either q (Memᴰ.append_cases ps m);
+    }
+  where
+    either : (q : ℕ) → Memᴰ q ps ⊎ Memᴰ q (p ∷ []) → IsMajorPrize q
+    either q (inl m) = l.each q m
+    either q (inr (Memᴰ.head e)) = subst IsMajorPrize (sym e) major
+    either q (inr (Memᴰ.tail m)) = elim m [ ]
 
-    pub counted_below : i < count → get_or table i 0 < bound → Counted (i + 1) (floored + 1) rest
-    unfolding keep
-    counted_below h less =
-        let e : ahead i ≡ cut_below bound (get_or table i 0 ∷ drop (i + 1) (take count table)) = ap (cut_below bound) (next_at h) in
-        let here : (cut_below bound (get_or table i 0 ∷ drop (i + 1) (take count table))).count ≡ 1 + (ahead (i + 1)).count =
-        rw (lt-ltb (get_or table i 0) bound less) (omega arith) in
-        let same : (cut_below bound (get_or table i 0 ∷ drop (i + 1) (take count table))).base ≡ (ahead (i + 1)).base =
-        rw (lt-leb bound (get_or table i 0) less) in
-        record {
-          within = omega arith;
-          below = omega (arith, s.below, ap (λ (c : Cut). c.count) e);
-          above = omega (arith, s.above, ap (λ (c : Cut). c.base) e);
-        }
+pub listed_stored : (table : List ℕ) (n p : ℕ) → length table ≡ 250 → Listed (take n table) → IsMajorPrize p → n < 250 → Listed (take (n + 1) (set table n p))
+listed_stored table n p long l major room =
+    subst Listed (sym (ap (λ k. take k (set table n p)) (add-one n) ∙ take-suc-set table n p (omega (arith, long))))
+    (listed_end (take n table) p l major (omega (arith, length-take n table, long)))
 
-    pub counted_above : i < count → bound ≤ get_or table i 0 → Counted (i + 1) floored (rest + get_or table i 0)
-    unfolding keep sum
-    counted_above h more =
-        let e : ahead i ≡ cut_below bound (get_or table i 0 ∷ drop (i + 1) (take count table)) = ap (cut_below bound) (next_at h) in
-        let here : (cut_below bound (get_or table i 0 ∷ drop (i + 1) (take count table))).count ≡ (ahead (i + 1)).count =
-        rw (le-ltb (get_or table i 0) bound more) in
-        let same : (cut_below bound (get_or table i 0 ∷ drop (i + 1) (take count table))).base ≡ get_or table i 0 + (ahead (i + 1)).base =
-        rw (le-leb bound (get_or table i 0) more) in
-        record {
-          within = omega arith;
-          below = omega (arith, s.below, ap (λ (c : Cut). c.count) e);
-          above = omega (arith, s.above, ap (λ (c : Cut). c.base) e);
-        }
-
-    pub counted_all : count ≤ i → record { below = bound; count = floored; base = rest } ≡ cut_below bound (take count table)
-    unfolding keep sum
-    counted_all h =
-        let e : ahead i ≡ cut_below bound [] = ap (cut_below bound) (part_end table 0 count whole_part i h) in
-        let count_e : floored ≡ all.count = omega (arith, s.below, ap (λ (c : Cut). c.count) e) in
-        let base_e : rest ≡ all.base = omega (arith, s.above, ap (λ (c : Cut). c.base) e) in
-        λ k. record { below = bound; count = count_e k; base = base_e k }
+pub listed_past : (table : List ℕ) (n : ℕ) → length table ≡ 250 → Listed (take n table) → 250 ≤ n → Listed (take (n + 1) table)
+listed_past table n long l past =
+    let all : take n table ≡ table = take_all n table (omega (arith, long)) in
+    let more : take (n + 1) table ≡ table = take_all (n + 1) table (omega (arith, long)) in
+    subst Listed (all ∙ sym more) l
 
 -- ---- the rounds
 
-module _ (table : List ℕ) (count : ℕ) (l : Listed table count) where
-  abbrev prizes : List ℕ
-  prizes = take count table
-
+module _ (prizes : List ℕ) (l : Listed prizes) where
   positive : (p : ℕ) → Memᴰ p prizes → 0 < p
-  positive p m = omega (arith, l.large p m)
+  positive p m = omega (arith, (l.each p m).large)
 
   -- all prizes together fit
-  pub listed_small : sum (map (λ p. p) (take count table)) ≤ 250 * 2 ^ 40
+  pub listed_small : sum (map (λ p. p) prizes) ≤ 250 * 2 ^ 40
   listed_small =
-      let few : length prizes ≤ 250 = omega (arith, part_length table 0 count (omega (arith, l.few, l.long)), l.few) in
-      le_trans (sum_within (λ p. p) (2 ^ 40) prizes (λ p m. le_of_lt (l.small p m))) (mul-le-mul_right (2 ^ 40) few)
+      le_trans (sum_within (λ p. p) (2 ^ 40) prizes (λ p m. le_of_lt (l.each p m).small)) (mul-le-mul_right (2 ^ 40) l.few)
 
-  pub total_small : sum (take count table) ≤ 250 * 2 ^ 40
-  total_small = omega (arith, listed_small, ap sum (map_self prizes))
+  pub total_small : sum prizes ≤ 250 * 2 ^ 40
+  total_small = omega (arith, listed_small, ap sum (map-id prizes))
 
   -- and those above a bound are a part of them
-  pub rest_small : (bound : ℕ) → (cut_below bound (take count table)).base ≤ 250 * 2 ^ 40
-  rest_small bound =
-      omega (arith, total_small, sum_keep_split (λ p. leb bound p) prizes)
+  pub rest_small : (bound : ℕ) → (cut_below bound prizes).base ≤ 250 * 2 ^ 40
+  rest_small bound = omega (arith, total_small, base_le bound prizes)
+
+  pub part_small : (i : ℕ) → sum (take i prizes) ≤ 250 * 2 ^ 40
+  part_small i =
+      omega (arith, listed_small, part_le (λ p. p) prizes i, ap sum (map-id (take i prizes)))
 
   -- a state that the rule's rounds come to
   pub record Follows (c : Cut) : Type 0 where
     pub rounds : ℕ
-    pub state : StateOf (take count table) rounds c
+    pub state : StateOf prizes rounds c
 
-  pub first_follows : (total : ℕ) → total ≡ sum (take count table) → Follows (first_cut total)
+  pub first_follows : (total : ℕ) → total ≡ sum prizes → Follows (first_cut total)
   first_follows total e = subst (λ (n : ℕ). Follows (first_cut n)) (sym e) (record { rounds = 0; state = state_first prizes })
 
-  module _ (c : Cut) (follows : Follows c) (next : Cut) (round : next ≡ cut_below (next_below c) (take count table)) where
+  module _ (c : Cut) (follows : Follows c) (next : Cut) (round : next ≡ cut_below (next_below c) prizes) where
     pub round_follows : Follows next
     round_follows =
         subst Follows (sym round)
@@ -192,27 +178,27 @@ module _ (table : List ℕ) (count : ℕ) (l : Listed table count) where
     counted = ap (λ (x : Cut). x.count) round
 
     -- a round floors more, and no more than there are
-    pub round_grows : (next.count ≡ c.count → ⊥) → (c.count < next.count) × (next.count ≤ length (take count table))
+    pub round_grows : (next.count ≡ c.count → ⊥) → (c.count < next.count) × (next.count ≤ length prizes)
     round_grows more =
         let grows : c.count ≤ (next_cut prizes c).count = next_count_grows prizes follows.rounds c follows.state positive in
         (omega (arith, counted), omega (arith, counted, next_count_le prizes c))
 
     -- or is the last, and the state before it pays what the rule pays
-    pub last_pays : majors_limit < sum (take count table) → next.count ≡ c.count → Pays c (take count table)
+    pub last_pays : majors_limit < sum prizes → next.count ≡ c.count → Pays c prizes
     last_pays past same =
         record {
           each =
-              λ p m. state_pays prizes follows.rounds c follows.state positive (sym counted ∙ same) past p m (l.large p m);
+              λ p m. state_pays prizes follows.rounds c follows.state positive (sym counted ∙ same) past p m (l.each p m).large;
         }
 
   -- prizes that do not pass the limit are paid as they are
-  pub uncut_pays : sum (take count table) ≤ majors_limit → Pays uncut (take count table)
+  pub uncut_pays : sum prizes ≤ majors_limit → Pays uncut prizes
   unfolding pay_under
   uncut_pays within =
       record {
         each =
             λ p m.
             let most : p ≤ majors_limit = le_trans (member_le_sum prizes p m) within in
-            rw (le-leb major_floor p (l.large p m), le-ltb p 0 (omega arith), le-leb p majors_limit most)
+            rw (le-leb major_floor p (l.each p m).large, le-ltb p 0 (omega arith), le-leb p majors_limit most)
             (mul-div_cancel p (omega arith) ∙ sym (payout_uncut prizes p within));
       }

@@ -1,5 +1,5 @@
 -- Laws of any table of prizes, whatever its size: a test computed over all its entries, or over all numbers below one, holds at each.
-use mathlib.Core.Path.{◌≡◌, refl, sym, subst, ap}
+use mathlib.Core.Path.{◌≡◌, refl, sym, subst, ap, ◌∙◌}
 use mathlib.Core.Bool.{Bool, true, false, ◌&&◌}
 use mathlib.Core.List.{List, [], ◌∷◌}
 use Prim.Native.Nat.{ℕ, zero, suc, ◌<◌}
@@ -10,7 +10,7 @@ use lib.ListN.{get_or, set}
 use lib.Seq.{get_or-set_other}
 use borrow.Author.Tests.{eqb-true, eqb-false}
 use Rattle.sale.specs.Lists.{every}
-use Rattle.prizes.specs.Schedules.{cell}
+use Rattle.prizes.specs.Schedules.{standard_rows, special_one_rows, cell}
 
 pub both : (a b : Bool) → T (a && b) → T a × T b
 both true b t = (tt, t)
@@ -50,3 +50,8 @@ module _ (rows : List (List ℕ)) where
   pub other_row : {i s : ℕ} (m : ℕ) (row : List ℕ) → (s ≡ i → ⊥) → cell (set rows i row) s m ≡ cell rows s m
   unfolding cell
   other_row {i} {s} m row h = ap (λ r. get_or r m 0) (get_or-set_other rows i s row [] h)
+
+-- rule 18.2 is rule 18.1 but for 6 and 8 numbers
+pub as_standard : (s m : ℕ) → (s ≡ 6 → ⊥) → (s ≡ 8 → ⊥) → cell standard_rows s m ≡ cell special_one_rows s m
+unfolding special_one_rows
+as_standard s m not_six not_eight = sym (other_row _ m _ not_eight ∙ other_row _ m _ not_six)

@@ -4,7 +4,6 @@ use Rattle.std.specs.Prelude.{ℕ, zero, suc, ◌+◌, ◌*◌, ◌-◌, ◌/◌
 use mathlib.Core.List.{List, [], ◌∷◌, map, zip_with}
 use Rattle.std.proofs.lemmas.List.Edits.{sets}
 use Rattle.sale.specs.Lists.{sum, keep}
-use Rattle.sale.specs.Kinds.{kind_of}
 use Rattle.prizes.specs.Hits.{hits}
 use Rattle.sale.specs.Ways.{mask_sum}
 use Rattle.prizes.specs.Prize.{major_floor, is_major, prize}
@@ -14,6 +13,7 @@ use Rattle.sale.specs.declared.terms.Kind.{Kind}
 use Rattle.prizes.specs.declared.draw.Draw.{Draw}
 use Rattle.sale.specs.declared.terms.Terms.{Terms}
 use Rattle.prizes.specs.declared.found.Found.{Found}
+use Rattle.prizes.specs.declared.majors.Majors.{Majors}
 
 -- ---- a group, or a way, in one number: the numbers that it selects, times 4096, and those of them that are drawn
 
@@ -56,28 +56,6 @@ pub record Carries (left mask pair : ℕ) (table : List ℕ) : Type 0 where
   pub added : pair ≡ mask_sum mask (drop (suc left) table)
   pub small : pair ≤ 2 ^ 20 * (8 - left)
 
--- ---- what the calls of the walk are lent in one table, so that they pass on few parameters: the stake, the types byte, the number of the kind,
--- and then the table of the groups. The two bytes stand in words, and are read as bytes whatever the words hold.
-
-abbrev pub stake_in : List ℕ → ℕ
-stake_in table = get_or table 0 0
-
-abbrev pub types_in : List ℕ → ℕ
-types_in table = get_or table 1 0 % 256
-
-abbrev pub kind_in : List ℕ → Kind
-kind_in table = kind_of (get_or table 2 0 % 256)
-
-abbrev pub groups_in : List ℕ → List ℕ
-groups_in table = drop 3 table
-
--- the table of a ticket, from its terms and the table of its groups
-pub record WalkOf (t : Terms) (these table : List ℕ) : Type 0 where
-  pub stake : stake_in table ≡ t.stake
-  pub types : types_in table ≡ t.types
-  pub kind : kind_in table ≡ t.kind
-  pub groups : groups_in table ≡ these
-
 -- ---- the figures of ways
 
 abbrev pub prize_in : Kind → ℕ → ℕ → ℕ
@@ -94,26 +72,30 @@ sure_of p = min p major_floor
 abbrev pub majors_among : Kind → ℕ → List ℕ → List ℕ
 majors_among kind stake pairs = keep is_major (map (prize_in kind stake) pairs)
 
--- Three figures in a table: the cents that are sure, the full matches, and the major prizes of all tickets so far. Room in it for so many ways.
-pub record Room (ways : ℕ) (found : List ℕ) : Type 0 where
-  pub sure : get_or found 0 0 + major_floor * ways < 2 ^ 64
-  pub full : get_or found 1 0 + ways < 2 ^ 64
-  pub majors : get_or found 2 0 + ways < 2 ^ 64
+-- Room for so many ways in what is found of a ticket, and in the count of all major prizes so far.
+pub record Room (ways : ℕ) (found : Found) (count : ℕ) : Type 0 where
+  pub sure : found.sure + major_floor * ways < 2 ^ 64
+  pub full : found.full + ways < 2 ^ 64
+  pub majors : count + ways < 2 ^ 64
 
--- something added to the first two, and major prizes counted in the third and stored behind those so far, as far as another table goes
-pub record Joined (cents matches : ℕ) (these found majors found' majors' : List ℕ) : Type 0 where
-  pub sure : get_or found' 0 0 ≡ get_or found 0 0 + cents
-  pub full : get_or found' 1 0 ≡ get_or found 1 0 + matches
-  pub count : get_or found' 2 0 ≡ get_or found 2 0 + length these
-  pub stored : majors' ≡ sets majors (get_or found 2 0) these
+-- major prizes counted, and stored behind those so far as far as there are places
+pub record Behind (these : List ℕ) (majors majors' : Majors) : Type 0 where
+  pub count : majors'.count ≡ majors.count + length these
+  pub stored : majors'.prizes ≡ sets majors.prizes majors.count these
+
+-- cents and matches added to what is found, with such major prizes
+pub record Joined (cents matches : ℕ) (these : List ℕ) (found : Found) (majors : Majors) (found' : Found) (majors' : Majors) : Type 0 where
+  pub sure : found'.sure ≡ found.sure + cents
+  pub full : found'.full ≡ found.full + matches
+  pub behind : Behind these majors majors'
 
 -- the figures of some ways
-abbrev pub JoinedWays : Kind → ℕ → List ℕ → List ℕ → List ℕ → List ℕ → List ℕ → Type 0
-JoinedWays kind stake pairs =
+abbrev pub JoinedWays : Terms → List ℕ → Found → Majors → Found → Majors → Type 0
+JoinedWays t pairs =
     Joined
-    (sum (map (λ x. sure_of (prize_in kind stake x)) pairs))
+    (sum (map (λ x. sure_of (prize_in t.kind t.stake x)) pairs))
     (length (keep (λ x. eqb (hits_in x) (size_in x)) pairs))
-    (majors_among kind stake pairs)
+    (majors_among t.kind t.stake pairs)
 
 -- a mask that is a way, or none
 abbrev pub way_or_none : Bool → ℕ → List ℕ
@@ -123,16 +105,11 @@ way_or_none t pair = cond t (pair ∷ []) []
 pub record Counting (before : ℕ) : Type 0 where
   pub few : before < 2 ^ 32
 
--- ---- of a ticket, where so many major prizes were found before it
+-- ---- of a ticket
 
-abbrev pub found_of : Terms → List ℕ → List ℕ → ℕ → Found
-found_of t sizes hits before =
-    record {
-      sure = sum (map sure_of (prizes_by t sizes hits));
-      full = full_by t sizes hits;
-      majors = before + length (keep is_major (prizes_by t sizes hits));
-    }
+abbrev pub found_of : Terms → List ℕ → List ℕ → Found
+found_of t sizes hits = record { sure = sum (map sure_of (prizes_by t sizes hits)); full = full_by t sizes hits }
 
-pub record FoundWith (t : Terms) (sizes hits : List ℕ) (before : ℕ) (majors : List ℕ) (r : Found) (majors' : List ℕ) : Type 0 where
-  pub found : r ≡ found_of t sizes hits before
-  pub stored : majors' ≡ sets majors before (keep is_major (prizes_by t sizes hits))
+pub record FoundWith (t : Terms) (sizes hits : List ℕ) (majors : Majors) (r : Found) (majors' : Majors) : Type 0 where
+  pub found : r ≡ found_of t sizes hits
+  pub behind : Behind (keep is_major (prizes_by t sizes hits)) majors majors'

@@ -1,5 +1,5 @@
--- The cut as the code works it out: F as the prizes below a bound, with the size of F and B, from round to round over the major prizes in a
--- table. Only contracts speak of these; the laws in proofs/CutStates and proofs/MajorLaws join them to the rule.
+-- The cut as the code works it out: F as the prizes below a bound, with the size of F and B, from round to round over the major prizes of a
+-- game. Only contracts speak of these; the laws in proofs/CutStates and proofs/MajorLaws join them to the rule.
 use Rattle.std.specs.Prelude.{ℕ, ◌+◌, ◌*◌, ◌-◌, ◌/◌, ◌%◌, ◌^◌, ◌≤◌, ◌<◌, max, ◌≡◌, cond, ltb, leb, length, take, drop}
 use mathlib.Core.List.{List, Memᴰ}
 use Rattle.sale.specs.Lists.{sum, keep}
@@ -42,24 +42,33 @@ cut_below bound ps =
 pub record Pays (c : Cut) (ps : List ℕ) : Type 0 where
   pub each : (p : ℕ) → Memᴰ p ps → pay_under c p ≡ payout ps p
 
--- ---- major prizes in a table
+-- ---- the major prizes of a game
 
--- the first prizes of a table: each a major one, whose product with all that there is to share fits
-pub record Listed (table : List ℕ) (count : ℕ) : Type 0 where
-  pub few : count ≤ 250
-  pub long : length table ≡ 250
-  pub large : (p : ℕ) → Memᴰ p (take count table) → major_floor ≤ p
-  pub small : (p : ℕ) → Memᴰ p (take count table) → p < 2 ^ 40
+-- a major prize, whose product with all that there is to share fits
+pub record IsMajorPrize (p : ℕ) : Type 0 where
+  pub large : major_floor ≤ p
+  pub small : p < 2 ^ 40
+
+-- major prizes, as many as are stored of a game at the most
+pub record Listed (ps : List ℕ) : Type 0 where
+  pub few : length ps ≤ 250
+  pub each : (p : ℕ) → Memᴰ p ps → IsMajorPrize p
 
 -- prizes that make so many cents, which pass the limit
 pub record PastLimit (ps : List ℕ) (cents : ℕ) : Type 0 where
   pub total : cents ≡ sum ps
   pub past : majors_limit < cents
 
+-- prizes that are paid from the floor to the limit
+pub record AllRaised (c : Cut) (ps : List ℕ) : Type 0 where
+  pub few : length ps ≤ 250
+  pub small : (p : ℕ) → Memᴰ p ps → p < 2 ^ 40
+  pub least : (p : ℕ) → Memᴰ p ps → major_floor ≤ pay_under c p
+  pub most : (p : ℕ) → Memᴰ p ps → pay_under c p ≤ majors_limit
+
 -- prizes of a table, from a place on and so many, that are paid from the floor to the limit
 pub record Raisable (c : Cut) (table : List ℕ) (from many : ℕ) : Type 0 where
   pub inside : from + many ≤ 250
-  pub long : length table ≡ 250
   pub small : (p : ℕ) → Memᴰ p (take many (drop from table)) → p < 2 ^ 40
   pub least : (p : ℕ) → Memᴰ p (take many (drop from table)) → major_floor ≤ pay_under c p
   pub most : (p : ℕ) → Memᴰ p (take many (drop from table)) → pay_under c p ≤ majors_limit

@@ -1,4 +1,4 @@
--- How the code keeps the schedules: in one table, which the look-up is lent. Only contracts speak of it. A selection has a word in the table: the place of
+-- How the code keeps the schedules: in one table, which the look-up is lent. Only contracts and the table's own struct speak of it. A selection has a word in the table: the place of
 -- its first cell, the match with which its run begins, and how many low matches pay.
 use Rattle.std.specs.Prelude.{ℕ, ◌+◌, ◌-◌, ◌/◌, ◌%◌, ◌≤◌, ◌<◌, ◌≡◌, cond, List, ltb, get_or}
 use Rattle.prizes.specs.Schedules.{standard_rows, special_one_rows, special_two_rows, cell}

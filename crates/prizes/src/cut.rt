@@ -5,7 +5,6 @@ ghost use Rattle.prizes.specs.Bounds.{Payable, Cuttable, Divided};
 ghost use Rattle.prizes.specs.Rounds.{first_cut, uncut, pay_under, next_below};
 
 use crate::prize::MAJOR_FLOOR;
-use numbers::order::max_u64;
 
 // The most that a game pays in major prizes together, in cents (rule 12.3).
 pub const MAJORS_LIMIT: u64 = 5_000_000;
@@ -48,46 +47,39 @@ impl Cut {
     fn shareable(self) -> u64
         ensures { result ≡ Rattle.prizes.specs.Rounds.shareable self }
     {
-        let count = self.count;
-        if count < FLOORS_IN_LIMIT {
-            MAJORS_LIMIT - MAJOR_FLOOR * count
-        } else {
-            0
-        }
+        FLOORS_IN_LIMIT.saturating_sub(self.count) * MAJOR_FLOOR
     }
 
     // What a prize pays under this state.
+    #[tactic(auto, unfolding(crate::specs::Rounds::pay_under))]
     pub fn payout(self, prize: u64) -> u64
         requires { Payable prize }
         ensures { result ≡ pay_under self prize }
     {
-        let below = self.below;
-        let base = self.base;
         if prize < MAJOR_FLOOR {
             return prize;
         }
-        if prize < below {
+        if prize < self.below {
             return MAJOR_FLOOR;
         }
         let part = self.shareable();
-        if base < prize {
+        if self.base < prize {
             return part;
         }
-        prize * part / base
+        prize * part / self.base
     }
 
     // The bound of the floored prizes after one more round.
+    #[tactic(auto, unfolding(crate::specs::Rounds::next_below))]
     pub fn next_below(self) -> u64
         requires { Cuttable self }
         ensures { result ≡ next_below self }
     {
-        let below = self.below;
-        let base = self.base;
         let part = self.shareable();
         if part == 0 {
-            return max_u64(below, base + 1);
+            return self.below.max(self.base + 1);
         }
-        max_u64(below, rounded_up(base, part))
+        self.below.max(rounded_up(self.base, part))
     }
 }
 

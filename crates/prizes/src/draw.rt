@@ -11,6 +11,7 @@ pub struct Draw {
 
 impl Draw {
     // The draw that twenty balls make.
+    #[tactic(auto, using(crate::proofs::LuckyLastLaws::last_at))]
     pub fn of(balls: [u8; 20]) -> Draw
         ensures { result ≡ draw_of balls }
     {

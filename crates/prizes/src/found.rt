@@ -1,143 +1,118 @@
 // What a ticket's ways win in a drawn game: one pass over them, for every ticket of the game. All its calls are lent what they read and
-// the tables that they add their figures in, and carry in one word the numbers that a way selects and those of them that are drawn: so their seven
-// parameters are words, and the second call of each is a jump. Six go in registers: the last is the table that few ways reach, the major prizes.
-// It leaves a group before it takes it, so that the ways come in their order.
-ghost use Rattle.std.specs.Prelude.{◌≡◌, cond, [], ◌∷◌, eqb, length};
+// the figures that they add to, and carry in one word the numbers that a way selects and those of them that are drawn: so their six
+// parameters go in registers, and the second call of each is a jump. It leaves a group before it takes it, so that the ways come in their order.
+ghost use Rattle.std.specs.Prelude.{◌≡◌, ◌+◌, ◌<◌, ◌^◌, cond, [], ◌∷◌, eqb, length};
 ghost use Rattle.std.specs.Int.Count.{ones};
 ghost use Rattle.sale.specs.Ways.{nominated};
 ghost use Rattle.sale.specs.Bounds.{Sound, Place};
 ghost use Rattle.sale.specs.Passes.{ways_from};
-ghost use Rattle.prizes.specs.Found.{size_in, hits_in, group_sizes, group_hits, Groups, Carries, stake_in, types_in, kind_in, groups_in, WalkOf, pairs_from, Room, JoinedWays, way_or_none, Counting, FoundWith};
-ghost use Rattle.prizes.specs.ScheduleTable.{Schedules};
+ghost use Rattle.prizes.specs.Found.{size_in, hits_in, group_sizes, group_hits, Carries, pairs_from, Room, JoinedWays, way_or_none, Counting, FoundWith};
 
-use crate::schedule_table::Table;
-use crate::{figures, prize};
-use sale::terms::{Kind, Terms};
+use crate::groups::GroupTable;
+use crate::majors::Majors;
+use crate::prize::{MAJOR_FLOOR, is_major, prize_of};
+use crate::schedule::PrizeTable;
+use sale::terms::Terms;
 use sale::ways;
 
-// Of a ticket's ways: the cents that they are paid in any case, of each major prize the floor; how many match all their numbers; and how many
-// major prizes there are, with those of the tickets before.
+// Of a ticket's ways: the cents that they are paid in any case, of each major prize the floor; and how many match all their numbers.
 #[derive(Clone, Copy)]
 pub struct Found {
     pub sure: u64,
     pub full: u64,
-    pub majors: u64,
+}
+
+impl Found {
+    // Adds to both.
+    fn add(&mut self, sure: u64, full: u64)
+        requires { (self.old.sure + sure < 2 ^ 64) × (self.old.full + full < 2 ^ 64) }
+        ensures { self.new ≡ record { sure = self.old.sure + sure; full = self.old.full + full } }
+    {
+        self.sure += sure;
+        self.full += full;
+    }
+}
+
+// What the pass over a ticket's ways reads: what it plays for, its groups, and the prizes.
+#[derive(Drop)]
+struct Walk<'a> {
+    terms: Terms,
+    groups: GroupTable,
+    table: &'a PrizeTable,
+    ghost sound: { Sound terms },
 }
 
 // 1 for a way that matches all the numbers it selects, and 0 for another.
 fn full_match(pair: u32) -> u64
     ensures { result ≡ cond (eqb (hits_in pair) (size_in pair)) 1 0 }
 {
-    if pair % 4096 == pair / 4096 { 1 } else { 0 }
+    u64::from(pair % 4096 == pair / 4096)
 }
 
 // Adds the figures of a way.
-fn find_way(
-    pair: u32,
-    kind: Kind,
-    stake: u32,
-    schedules: &Table,
-    found: &mut [u64; 3],
-    majors: &mut [u64; 250],
-)
-    requires { Schedules schedules.now × Room 1 found.old }
-    ensures { JoinedWays kind stake (pair ∷ []) found.old majors.old found.new majors.new }
+fn find_way(pair: u32, walk: &Walk, found: &mut Found, majors: &mut Majors)
+    requires { Room 1 found.old majors.old.count }
+    ensures { JoinedWays walk.now.terms (pair ∷ []) found.old majors.old found.new majors.new }
 {
-    let cents = prize::prize_of(kind, stake, pair / 4096, pair % 4096, schedules);
-    let full = full_match(pair);
-    if !prize::is_major(cents) {
-        figures::add(cents, full, found);
-        return;
+    let terms = walk.terms;
+    let cents = prize_of(
+        terms.kind,
+        terms.stake,
+        pair / 4096,
+        pair % 4096,
+        walk.table,
+    );
+    found.add(cents.min(MAJOR_FLOOR), full_match(pair));
+    if is_major(cents) {
+        majors.push(cents);
     }
-    figures::add(prize::MAJOR_FLOOR, full, found);
-    figures::store(cents, found, majors);
 }
 
 // Adds the figures of a mask of groups, which is a way or none.
-fn find_mask(
-    mask: u32,
-    pair: u32,
-    table: &[u32; 12],
-    schedules: &Table,
-    found: &mut [u64; 3],
-    majors: &mut [u64; 250],
-)
-    requires { Place 0 mask × Schedules schedules.now × Room (length (way_or_none (nominated (types_in table.now) (ones mask)) pair)) found.old }
-    ensures { JoinedWays (kind_in table.now) (stake_in table.now) (way_or_none (nominated (types_in table.now) (ones mask)) pair) found.old majors.old found.new majors.new }
+fn find_mask(mask: u32, pair: u32, walk: &Walk, found: &mut Found, majors: &mut Majors)
+    requires { Place 0 mask × Room (length (way_or_none (nominated walk.now.terms.types (ones mask)) pair)) found.old majors.old.count }
+    ensures { JoinedWays walk.now.terms (way_or_none (nominated walk.now.terms.types (ones mask)) pair) found.old majors.old found.new majors.new }
 {
-    if !ways::nominates((table[1] % 256) as u8, u32::count_ones(mask)) {
-        return;
+    if ways::nominates(walk.terms.types, mask.count_ones()) {
+        find_way(pair, walk, found, majors);
     }
-    let kind = Kind::of((table[2] % 256) as u8);
-    find_way(pair, kind, table[0], schedules, found, majors);
 }
 
 // Adds the figures of the ways that begin with the groups in the mask, where `left` groups are left to leave or to take.
-fn find_from(
-    left: usize,
-    mask: u32,
-    pair: u32,
-    table: &[u32; 12],
-    schedules: &Table,
-    found: &mut [u64; 3],
-    majors: &mut [u64; 250],
-)
-    requires { Place left mask × Groups (groups_in table.now) × Carries left mask pair (groups_in table.now) × Schedules schedules.now × Room (length (ways_from (types_in table.now) left mask)) found.old }
-    ensures { JoinedWays (kind_in table.now) (stake_in table.now) (pairs_from (types_in table.now) (groups_in table.now) left mask) found.old majors.old found.new majors.new }
+fn find_from(left: usize, mask: u32, pair: u32, walk: &Walk, found: &mut Found, majors: &mut Majors)
+    requires { Place left mask × Carries left mask pair walk.now.groups.pairs × Room (length (ways_from walk.now.terms.types left mask)) found.old majors.old.count }
+    ensures { JoinedWays walk.now.terms (pairs_from walk.now.terms.types walk.now.groups.pairs left mask) found.old majors.old found.new majors.new }
 {
     if left == 0 {
-        find_mask(mask, pair, table, schedules, found, majors);
+        find_mask(mask, pair, walk, found, majors);
         return;
     }
-    if ways::ends_here((table[1] % 256) as u8, mask, left) {
+    if ways::ends_here(walk.terms.types, mask, left) {
         return;
     }
     let after = left - 1;
-    find_from(after, mask * 2, pair, table, schedules, found, majors);
-    let more = pair + table[3 + left];
-    find_from(after, mask * 2 + 1, more, table, schedules, found, majors);
+    find_from(after, mask * 2, pair, walk, found, majors);
+    let more = pair + walk.groups.pairs[left];
+    find_from(after, mask * 2 + 1, more, walk, found, majors);
 }
 
-// What the walk over a ticket's ways is lent.
-fn walk_table(terms: Terms, groups: &[u32; 9]) -> [u32; 12]
-    requires { Groups groups.now }
-    ensures { WalkOf terms groups.now result }
-{
-    let kind = terms.kind;
-    [
-        terms.stake,
-        terms.types as u32,
-        kind.number() as u32,
-        groups[0],
-        groups[1],
-        groups[2],
-        groups[3],
-        groups[4],
-        groups[5],
-        groups[6],
-        groups[7],
-        groups[8],
-    ]
-}
-
-// What a ticket's ways win, from the table of its groups, where `before` major prizes were found before it. Its own are stored behind them.
+// What a ticket's ways win. Its major prizes are counted and stored behind those before them.
 pub fn ticket_prizes(
     terms: Terms,
-    groups: &[u32; 9],
-    schedules: &Table,
-    before: u64,
-    majors: &mut [u64; 250],
+    groups: &GroupTable,
+    table: &PrizeTable,
+    majors: &mut Majors,
 ) -> Found
-    requires { Sound terms × Groups groups.now × Schedules schedules.now × Counting before }
-    ensures { FoundWith terms (group_sizes groups.now) (group_hits groups.now) before majors.old result majors.new }
+    requires sound { Sound terms }
+    requires room { Counting majors.old.count }
+    ensures { FoundWith terms (group_sizes groups.now.pairs) (group_hits groups.now.pairs) majors.old result majors.new }
 {
-    let count = terms.groups;
-    let table = walk_table(terms, groups);
-    let mut found = [0u64, 0u64, before];
-    find_from(count as usize, 0, 0, &table, schedules, &mut found, majors);
-    Found {
-        sure: found[0],
-        full: found[1],
-        majors: found[2],
-    }
+    let walk = Walk {
+        terms,
+        groups: *groups,
+        table,
+    };
+    let mut found = Found { sure: 0, full: 0 };
+    find_from(terms.groups as usize, 0, 0, &walk, &mut found, majors);
+    found
 }

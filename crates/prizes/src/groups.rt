@@ -1,9 +1,9 @@
 // The groups of a ticket in a drawn game: how many numbers each has, and how many of them were drawn.
-ghost use Rattle.std.specs.Prelude.{◌≡◌, ◌+◌, ◌*◌, ◌%◌};
+ghost use Rattle.std.specs.Prelude.{◌≡◌, ◌+◌, ◌*◌};
 ghost use Rattle.sale.specs.Ways.{mark_of, size_word};
 ghost use Rattle.sale.specs.Bounds.{Grouping};
 ghost use Rattle.prizes.specs.Hits.{hits};
-ghost use Rattle.prizes.specs.Found.{group_table, GroupsOf};
+ghost use Rattle.prizes.specs.Found.{Groups, group_table, GroupsOf};
 
 use crate::draw::Draw;
 
@@ -21,14 +21,34 @@ const UNITS: [u64; 9] = [
     0x100_0000_0000_0000,
 ];
 
-// The mark of a number, 0 for one that is not on the ticket.
+// The groups as the walk over a ticket's ways reads them: at place k the numbers of group k times 4096, and those of them that are drawn.
+// A pair in one word takes one register and is added by one sum.
+#[derive(Clone, Copy)]
+pub struct GroupTable {
+    pub pairs: [u32; 9],
+    ghost bytes: { Groups pairs },
+}
+
+impl GroupTable {
+    // From the word of the groups' sizes.
+    pub fn of(sizes: u64, draw: Draw, marks: &[u8]) -> GroupTable
+        requires { Grouping marks.now }
+        ensures { GroupsOf sizes draw marks.now result.pairs }
+    {
+        GroupTable {
+            pairs: pairs_of(sizes, hit_word(draw, marks)),
+        }
+    }
+}
+
+// The mark of a number, 0 for one that is not on the ticket. `get` would need the test for number 0 beside it, and say no more.
+#[tactic(auto, using(crate::proofs::HitLaws::mark_at, crate::proofs::HitLaws::no_mark_at_zero, crate::proofs::HitLaws::no_mark_beyond))]
 pub(crate) fn mark_of(marks: &[u8], number: u8) -> u8
     ensures { result ≡ mark_of marks.now number }
 {
     let n = number as usize;
     if 1 <= n && n <= marks.len() {
-        let at = n - 1;
-        marks[at]
+        marks[n - 1]
     } else {
         0
     }
@@ -40,60 +60,36 @@ fn hit_word(draw: Draw, marks: &[u8]) -> u64
     requires { Grouping marks.now }
     ensures { result ≡ size_word (hits draw marks.now) }
 {
-    let balls = draw.balls;
     let units = UNITS;
-    let mut word: u64 = 0;
-    let mut i: usize = 0;
-    while i < 20 {
-        word += units[mark_of(marks, balls[i]) as usize];
-        i += 1;
+    let mut word = 0;
+    for ball in draw.balls {
+        word += units[mark_of(marks, ball) as usize];
     }
     word
 }
 
-// A group at its place in the table, from the lowest bytes of the two words.
-fn lowest_group(sizes: u64, hits: u64) -> u32
-    ensures { result ≡ sizes % 256 * 4096 + hits % 256 }
+// A group at its place in the table.
+fn pair_of(size: u8, hits: u8) -> u32
+    ensures { result ≡ size * 4096 + hits }
 {
-    (sizes % 256) as u32 * 4096 + (hits % 256) as u32
+    size as u32 * 4096 + hits as u32
 }
 
-// The table of groups from the words of their sizes and of their hits.
-fn table_of(sizes: u64, hits: u64) -> [u32; 9]
+// The pairs of the groups, from the words of their sizes and of their hits.
+fn pairs_of(sizes: u64, hits: u64) -> [u32; 9]
     ensures { result ≡ group_table sizes hits }
 {
-    let sizes2 = sizes / 256;
-    let sizes3 = sizes2 / 256;
-    let sizes4 = sizes3 / 256;
-    let sizes5 = sizes4 / 256;
-    let sizes6 = sizes5 / 256;
-    let sizes7 = sizes6 / 256;
-    let sizes8 = sizes7 / 256;
-    let hits2 = hits / 256;
-    let hits3 = hits2 / 256;
-    let hits4 = hits3 / 256;
-    let hits5 = hits4 / 256;
-    let hits6 = hits5 / 256;
-    let hits7 = hits6 / 256;
-    let hits8 = hits7 / 256;
+    let size = sizes.to_le_bytes();
+    let hit = hits.to_le_bytes();
     [
         0,
-        lowest_group(sizes, hits),
-        lowest_group(sizes2, hits2),
-        lowest_group(sizes3, hits3),
-        lowest_group(sizes4, hits4),
-        lowest_group(sizes5, hits5),
-        lowest_group(sizes6, hits6),
-        lowest_group(sizes7, hits7),
-        lowest_group(sizes8, hits8),
+        pair_of(size[0], hit[0]),
+        pair_of(size[1], hit[1]),
+        pair_of(size[2], hit[2]),
+        pair_of(size[3], hit[3]),
+        pair_of(size[4], hit[4]),
+        pair_of(size[5], hit[5]),
+        pair_of(size[6], hit[6]),
+        pair_of(size[7], hit[7]),
     ]
-}
-
-// The groups of a ticket in a drawn game as the walk over its ways reads them, from the word of their sizes: at place k the numbers of group k
-// times 4096, and those of them that are drawn.
-pub fn group_table(word: u64, draw: Draw, marks: &[u8]) -> [u32; 9]
-    requires { Grouping marks.now }
-    ensures { GroupsOf word draw marks.now result }
-{
-    table_of(word, hit_word(draw, marks))
 }

@@ -27,6 +27,7 @@ impl Jackpot {
     }
 
     // With the contributions of so many cents of paid stakes.
+    #[tactic(auto, unfolding(crate::specs::Jackpots::contributed))]
     pub fn contributed(self, paid: u64) -> Jackpot
         requires { Contributing self paid }
         ensures { result ≡ contributed paid self }
@@ -36,22 +37,24 @@ impl Jackpot {
             primary: self.primary + 15 * dollars,
             secondary: self.secondary + 5 * dollars,
             reimbursement: self.reimbursement + 5 * dollars,
-            debt: self.debt,
+            ..self
         }
     }
 
-    // The seed that is needed after the primary was won.
+    // The seed that is needed after the primary was won. `won` is no Option of a seed: one of 0 is a seed too.
+    #[tactic(auto, unfolding(crate::specs::Jackpots::seed_of))]
     pub fn seed(self, won: bool, guarantee: u64) -> u64
         ensures { result ≡ seed_of won guarantee self }
     {
-        if won && self.secondary < guarantee {
-            guarantee - self.secondary
+        if won {
+            guarantee.saturating_sub(self.secondary)
         } else {
             0
         }
     }
 
     // The secondary and the seed as the next primary, where the last one was won.
+    #[tactic(auto, unfolding(crate::specs::Jackpots::seed_of, crate::specs::Jackpots::reseeded))]
     pub fn reseeded(self, won: bool, guarantee: u64) -> Jackpot
         requires { Seeding self guarantee }
         ensures { result ≡ reseeded won guarantee self }
@@ -63,8 +66,8 @@ impl Jackpot {
         Jackpot {
             primary: self.secondary + seed,
             secondary: 0,
-            reimbursement: self.reimbursement,
             debt: self.debt + seed,
+            ..self
         }
     }
 
@@ -72,28 +75,25 @@ impl Jackpot {
     pub fn repayment(self) -> u64
         ensures { result ≡ repaid_of self }
     {
-        if self.reimbursement < self.debt {
-            self.reimbursement
-        } else {
-            self.debt
-        }
+        self.reimbursement.min(self.debt)
     }
 
     // After that payment.
+    #[tactic(auto, unfolding(crate::specs::Jackpots::repaid))]
     pub fn repaid(self) -> Jackpot
         ensures { result ≡ repaid self }
     {
         let paid = self.repayment();
         Jackpot {
-            primary: self.primary,
-            secondary: self.secondary,
             reimbursement: self.reimbursement - paid,
             debt: self.debt - paid,
+            ..self
         }
     }
 }
 
 // A winning way's share, rounded down. The quotient is taken first: primary × stake can pass 64 bits.
+#[tactic(auto, using(crate::proofs::ShareLaws::share_by_parts))]
 pub fn share_of(primary: u64, stakes: u64, stake: u32) -> u64
     requires { Sharing primary stakes 1 stake }
     ensures { result ≡ share_of primary stakes stake }
@@ -108,10 +108,5 @@ pub fn ticket_share(odd: u64, primary: u64, stakes: u64, count: u64, stake: u32)
     requires { Winning primary stakes count stake }
     ensures { result ≡ count * share_of primary stakes stake + min odd count }
 {
-    let shares = count * share_of(primary, stakes, stake);
-    if odd < count {
-        shares + odd
-    } else {
-        shares + count
-    }
+    count * share_of(primary, stakes, stake) + odd.min(count)
 }

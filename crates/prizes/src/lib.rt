@@ -4,7 +4,6 @@
 
 pub mod cut;
 pub mod draw;
-mod figures;
 pub mod found;
 pub mod groups;
 pub mod jackpot;
@@ -12,4 +11,3 @@ pub mod lucky_last;
 pub mod majors;
 pub mod prize;
 pub mod schedule;
-pub mod schedule_table;

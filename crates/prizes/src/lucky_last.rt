@@ -1,5 +1,5 @@
 // Lucky Last: what the feature pays where the last ball of a game is among the ticket's numbers.
-ghost use Rattle.std.specs.Prelude.{◌≡◌};
+ghost use Rattle.std.specs.Prelude.{◌≡◌, ◌≤◌, length, sum as total};
 ghost use Rattle.sale.specs.Lists.{sum};
 ghost use Rattle.prizes.specs.Found.{word_bytes};
 ghost use Rattle.prizes.specs.Bounds.{KeptSizes};
@@ -17,26 +17,27 @@ const CENTS: [u16; 16] = [
 fn numbers_in(word: u64) -> u64
     ensures { result ≡ sum (word_bytes 8 word) }
 {
-    let mut rest = word;
-    let mut numbers: u64 = 0;
-    let mut i: usize = 0;
-    while i < 8 {
-        numbers += rest % 256;
-        rest = rest / 256;
-        i += 1;
-    }
-    numbers
+    sum_of(&word.to_le_bytes())
+}
+
+// The bytes together.
+fn sum_of(sizes: &[u8]) -> u64
+    requires { length sizes.now ≤ 8 }
+    ensures { result ≡ total sizes.now }
+{
+    sizes.iter().map(|size| u64::from(*size)).sum()
 }
 
 // The cents for one dollar: none for more numbers than the rule has.
+#[tactic(auto, unfolding(crate::specs::LuckyLast::lucky_last_cents, crate::specs::LuckyLast::lucky_last_row))]
 fn cents_for(numbers: u64) -> u64
     ensures { result ≡ lucky_last_cents numbers }
 {
-    if 15 < numbers {
-        return 0;
-    }
     let cents = CENTS;
-    cents[numbers as usize] as u64
+    match cents.get(numbers as usize) {
+        Some(cents) => u64::from(*cents),
+        None => 0,
+    }
 }
 
 // The feature prize of a ticket, from its marks, the word of its groups' sizes and its feature stake.

@@ -1,89 +1,116 @@
-// The major prizes of a game, in a table of fewer than 250, and what each is paid: the rounds of the cut go over the table (rules 12.3 to 12.5).
-// From 250 on each is paid the floor, and no table is needed.
-ghost use Rattle.std.specs.Prelude.{◌≡◌, map, ◌-◌, take, drop};
+// The major prizes of a game, of which the first 250 are stored, and what each is paid: the rounds of the cut go over them (rules 12.3 to 12.5).
+// From 250 on each is paid the floor, and none is looked at.
+ghost use Rattle.std.specs.Prelude.{◌≡◌, map, ◌+◌, ◌-◌, ◌<◌, ◌≤◌, ◌^◌, set, take, drop, sum as total};
 ghost use Rattle.sale.specs.Lists.{sum};
 ghost use Rattle.prizes.specs.Prize.{major_floor};
-ghost use Rattle.prizes.specs.Rounds.{pay_under, cut_below, Pays, Listed, PastLimit, Raisable};
+ghost use Rattle.prizes.specs.Rounds.{pay_under, cut_below, Pays, Listed, IsMajorPrize, PastLimit, Raisable, AllRaised};
 
-use crate::cut::{Cut, MAJORS_LIMIT};
+use crate::cut::{Cut, FLOORS_IN_LIMIT, MAJORS_LIMIT};
 use crate::prize::MAJOR_FLOOR;
 
-// The first prizes of the table together.
-fn sum_of(majors: &[u64; 250], count: usize) -> u64
-    requires { Listed majors.now count }
-    ensures { result ≡ sum (take count majors.now) }
+// The major prizes so far: how many there are, and the first 250 of them.
+#[derive(Drop)]
+pub struct Majors {
+    pub prizes: [u64; 250],
+    pub count: u64,
+    ghost listed: { Listed (take count prizes) },
+}
+
+impl Majors {
+    // Before the first.
+    pub fn none() -> Majors
+        ensures { result.count ≡ 0 }
+    {
+        Majors {
+            prizes: [0; 250],
+            count: 0,
+        }
+    }
+
+    // One more, which is stored where it is among the first 250.
+    pub fn push(&mut self, cents: u64)
+        requires major { IsMajorPrize cents }
+        requires room { self.old.count + 1 < 2 ^ 64 }
+        ensures count { self.new.count ≡ self.old.count + 1 }
+        ensures stored { self.new.prizes ≡ set self.old.prizes self.old.count cents }
+    {
+        if self.count < FLOORS_IN_LIMIT {
+            self.prizes[self.count as usize] = cents;
+        }
+        self.count += 1;
+    }
+
+    // The state of the cut under which they are paid what the rule says. They are cut where they pass the most for a game.
+    pub fn cut(&self) -> Cut
+        requires { self.now.count ≤ 250 }
+        ensures { Pays result (take self.now.count self.now.prizes) }
+    {
+        let prizes = &self.prizes[..self.count as usize];
+        let total = sum_of(prizes);
+        if total <= MAJORS_LIMIT {
+            Cut::none()
+        } else {
+            last_round(prizes, total)
+        }
+    }
+
+    // What the prizes from a place on, `many` of them, are paid above the floor.
+    pub fn raise(&self, from: usize, many: usize, cut: Cut) -> u64
+        requires { Raisable cut self.now.prizes from many }
+        ensures { result ≡ sum (map (λ p. pay_under cut p - major_floor) (take many (drop from self.now.prizes))) }
+    {
+        raised(&self.prizes[from..from + many], cut)
+    }
+}
+
+// What prizes are paid above the floor.
+fn raised(prizes: &[u64], cut: Cut) -> u64
+    requires { AllRaised cut prizes.now }
+    ensures { result ≡ sum (map (λ p. pay_under cut p - major_floor) prizes.now) }
 {
     let mut total = 0;
-    let mut i = 0;
-    while i < count {
-        total += majors[i];
-        i += 1;
+    for prize in prizes {
+        total += cut.payout(*prize) - MAJOR_FLOOR;
     }
     total
 }
 
-// The state of the cut in which the prizes below a bound are floored.
-fn cut_below(majors: &[u64; 250], count: usize, below: u64) -> Cut
-    requires { Listed majors.now count }
-    ensures { result ≡ cut_below below (take count majors.now) }
+// The prizes together.
+fn sum_of(prizes: &[u64]) -> u64
+    requires { total prizes.now < 2 ^ 64 }
+    ensures { result ≡ total prizes.now }
 {
-    let mut floored = 0;
-    let mut rest = 0;
-    let mut i = 0;
-    while i < count {
-        let cents = majors[i];
-        if cents < below {
-            floored += 1;
+    prizes.iter().sum()
+}
+
+// The state of the cut in which the prizes below a bound are floored.
+fn cut_below(prizes: &[u64], below: u64) -> Cut
+    requires { Listed prizes.now }
+    ensures { result ≡ cut_below below prizes.now }
+{
+    let mut count = 0;
+    let mut base = 0;
+    for prize in prizes {
+        if *prize < below {
+            count += 1;
         } else {
-            rest += cents;
+            base += *prize;
         }
-        i += 1;
     }
-    Cut {
-        below,
-        count: floored,
-        base: rest,
-    }
+    Cut { below, count, base }
 }
 
 // The rounds of the cut, where the prizes make `total` cents: until one floors no more.
-fn last_round(majors: &[u64; 250], count: usize, total: u64) -> Cut
-    requires { Listed majors.now count × PastLimit (take count majors.now) total }
-    ensures { Pays result (take count majors.now) }
+fn last_round(prizes: &[u64], total: u64) -> Cut
+    requires { Listed prizes.now × PastLimit prizes.now total }
+    ensures { Pays result prizes.now }
 {
     let mut cut = Cut::first(total);
     loop {
-        let next = cut_below(majors, count, cut.next_below());
+        let next = cut_below(prizes, cut.next_below());
         if next.count == cut.count {
             return cut;
         }
         cut = next;
     }
-}
-
-// The state of the cut under which the first prizes of the table are paid what the rule says. They are cut where they pass the most for a game.
-pub fn cut_of(majors: &[u64; 250], count: usize) -> Cut
-    requires { Listed majors.now count }
-    ensures { Pays result (take count majors.now) }
-{
-    let total = sum_of(majors, count);
-    if total <= MAJORS_LIMIT {
-        return Cut::none();
-    }
-    last_round(majors, count, total)
-}
-
-// What the prizes from a place on, `many` of them, are paid above the floor.
-pub fn raise_of(majors: &[u64; 250], from: usize, many: usize, cut: Cut) -> u64
-    requires { Raisable cut majors.now from many }
-    ensures { result ≡ sum (map (λ p. pay_under cut p - major_floor) (take many (drop from majors.now))) }
-{
-    let mut total = 0;
-    let mut i = 0;
-    while i < many {
-        let paid = cut.payout(majors[from + i]);
-        total += paid - MAJOR_FLOOR;
-        i += 1;
-    }
-    total
 }

@@ -1,10 +1,8 @@
 // The prize of a way.
 ghost use Rattle.std.specs.Prelude.{◌≡◌};
 ghost use Rattle.prizes.specs.Prize.{is_major, dollars, prize};
-ghost use Rattle.prizes.specs.ScheduleTable.{Schedules};
 
-use crate::schedule;
-use crate::schedule_table::Table;
+use crate::schedule::PrizeTable;
 use sale::terms::{Kind, Schedule};
 
 // The most that a way wins, in cents, but for jackpot tickets (rule 12.2).
@@ -14,39 +12,29 @@ pub const PRIZE_LIMIT: u64 = 5_000_000;
 pub const MAJOR_FLOOR: u64 = 20_000;
 
 // What a way wins for a stake of one dollar, jackpot shares aside.
-pub fn dollars_of(kind: Kind, selection: u32, matched: u32, schedules: &Table) -> u16
-    requires { Schedules schedules.now }
+#[tactic(auto, unfolding(crate::specs::Prize::dollars))]
+pub fn dollars_of(kind: Kind, selection: u32, matched: u32, table: &PrizeTable) -> u16
     ensures { result ≡ dollars kind selection matched }
 {
     match kind {
-        Kind::Standard => schedule::standard(selection, matched, schedules),
-        Kind::Jackpot => {
-            if matched == selection {
-                0
-            } else {
-                schedule::standard(selection, matched, schedules)
-            }
-        }
-        Kind::Special(s) => match s {
-            Schedule::One => schedule::special_one(selection, matched, schedules),
-            Schedule::Two => schedule::special_two(selection, matched, schedules),
-        },
+        Kind::Jackpot if matched == selection => 0,
+        Kind::Jackpot => table.standard(selection, matched),
+        Kind::Standard => table.standard(selection, matched),
+        Kind::Special(Schedule::One) => table.special_one(selection, matched),
+        Kind::Special(Schedule::Two) => table.special_two(selection, matched),
     }
 }
 
 // The prize of a way, in cents and before any cut: at most $50,000, but for jackpot tickets.
-pub fn prize_of(kind: Kind, stake: u32, selection: u32, matched: u32, schedules: &Table) -> u64
-    requires { Schedules schedules.now }
+#[tactic(auto, unfolding(crate::specs::Prize::prize))]
+pub fn prize_of(kind: Kind, stake: u32, selection: u32, matched: u32, table: &PrizeTable) -> u64
     ensures { result ≡ prize kind stake selection matched }
 {
-    let cents = dollars_of(kind, selection, matched, schedules) as u64 * stake as u64;
+    let cents = dollars_of(kind, selection, matched, table) as u64 * stake as u64;
     if kind.is_jackpot() {
-        return cents;
-    }
-    if cents < PRIZE_LIMIT {
         cents
     } else {
-        PRIZE_LIMIT
+        cents.min(PRIZE_LIMIT)
     }
 }
 

@@ -1,9 +1,145 @@
-// The schedules of prizes of rules 18.1, 18.2 and 18.3, in dollars for a stake of one dollar: looked up in their table, which is lent.
+// The schedules of prizes of rules 18.1, 18.2 and 18.3, in dollars for a stake of one dollar, as one constant table of 264 bytes. The back end copies a
+// constant array to the stack wherever it is used: so a game takes it once, and lends it to all that look a prize up.
 ghost use Rattle.std.specs.Prelude.{◌≡◌, get_or};
 ghost use Rattle.prizes.specs.Schedules.{standard_rows, special_one_rows, special_two_rows, cell};
 ghost use Rattle.prizes.specs.ScheduleTable.{start_in, run_in, low_in, prize_by, WordAt, Schedules};
 
-use crate::schedule_table::Table;
+// At most 528 bytes are allowed, so a word has three numbers in its four hexadecimal digits: two for the place of the selection's first cell, one for the
+// match with which its run begins, one for how many low matches pay, from 0 on. A selection's cells are those of its low matches and then those of its
+// run, which goes up to all its numbers.
+const TABLE: [u16; 132] = [
+    0x15_1_0, // rule 18.1, 1 number
+    0x16_2_0, // rule 18.1, 2 numbers
+    0x17_2_0, // rule 18.1, 3 numbers
+    0x19_2_0, // rule 18.1, 4 numbers
+    0x1c_3_1, // rule 18.1, 5 numbers
+    0x20_3_0, // rule 18.1, 6 numbers
+    0x24_3_1, // rule 18.1, 7 numbers
+    0x2a_4_1, // rule 18.1, 8 numbers
+    0x30_4_1, // rule 18.1, 9 numbers
+    0x37_4_1, // rule 18.1, 10 numbers
+    0x3f_5_2, // rule 18.1, 11 numbers
+    0x48_5_2, // rule 18.1, 12 numbers
+    0x52_5_2, // rule 18.1, 13 numbers
+    0x5d_5_2, // rule 18.1, 14 numbers
+    0x69_6_2, // rule 18.1, 15 numbers
+    0x75_3_1, // rule 18.2, 6 numbers
+    0x7a_4_1, // rule 18.2, 8 numbers
+    0x80_3_0, // rule 18.3, 3 numbers
+    0x81_4_0, // rule 18.3, 4 numbers
+    0x82_5_0, // rule 18.3, 5 numbers
+    0x83_6_0, // rule 18.3, 6 numbers
+    // rule 18.1, 1 number: 1 matched
+    3,
+    // rule 18.1, 2 numbers: 2 matched
+    13,
+    // rule 18.1, 3 numbers: 2 to 3 matched
+    2, 36,
+    // rule 18.1, 4 numbers: 2 to 4 matched
+    1, 5, 113,
+    // rule 18.1, 5 numbers: 0, 3 to 5 matched
+    1, 1, 10, 530,
+    // rule 18.1, 6 numbers: 3 to 6 matched
+    1, 4, 50, 1000,
+    // rule 18.1, 7 numbers: 0, 3 to 7 matched
+    1, 1, 3, 10, 155, 5000,
+    // rule 18.1, 8 numbers: 0, 4 to 8 matched
+    1, 1, 5, 50, 555, 12500,
+    // rule 18.1, 9 numbers: 0, 4 to 9 matched
+    2, 2, 4, 15, 150, 3000, 20000,
+    // rule 18.1, 10 numbers: 0, 4 to 10 matched
+    3, 1, 3, 12, 50, 500, 7500, 25000,
+    // rule 18.1, 11 numbers: 0, 1, 5 to 11 matched
+    4, 1, 2, 5, 32, 200, 1500, 10000, 30000,
+    // rule 18.1, 12 numbers: 0, 1, 5 to 12 matched
+    6, 1, 1, 5, 15, 75, 600, 4000, 12000, 35000,
+    // rule 18.1, 13 numbers: 0, 1, 5 to 13 matched
+    8, 1, 1, 3, 7, 40, 250, 2000, 9000, 20000, 40000,
+    // rule 18.1, 14 numbers: 0, 1, 5 to 14 matched
+    10, 1, 1, 2, 5, 15, 150, 500, 5500, 15000, 25000, 45000,
+    // rule 18.1, 15 numbers: 0, 1, 6 to 15 matched
+    12, 2, 2, 5, 15, 50, 350, 1600, 8000, 15000, 30000, 50000,
+    // rule 18.2, 6 numbers: 0, 3 to 6 matched
+    1, 1, 6, 50, 1200,
+    // rule 18.2, 8 numbers: 0, 4 to 8 matched
+    1, 2, 9, 60, 1000, 12500,
+    // rule 18.3, 3 numbers: 3 matched
+    56,
+    // rule 18.3, 4 numbers: 4 matched
+    252,
+    // rule 18.3, 5 numbers: 5 matched
+    1200,
+    // rule 18.3, 6 numbers: 6 matched
+    6000,
+];
+
+// The three schedules: a word for each of the 21 selections that a schedule has, and a cell for each of the 111 combinations that pay.
+#[derive(Drop)]
+pub struct PrizeTable {
+    cells: [u16; 132],
+    ghost kept: { Schedules cells },
+}
+
+impl PrizeTable {
+    // The table, for a game.
+    pub fn of_the_rules() -> PrizeTable {
+        PrizeTable { cells: TABLE }
+    }
+
+    // The prize for a match of a selection whose word stands at a place. Most matches pay nothing, and the word alone says so.
+    fn row_prize(&self, place: usize, selection: u32, matched: u32) -> u16
+        requires { WordAt self.now.cells place selection }
+        ensures { result ≡ prize_by self.now.cells (get_or self.now.cells place 0) selection matched }
+    {
+        let word = self.cells[place];
+        let start = start_of(word);
+        let run = run_of(word);
+        let low = low_of(word);
+        if matched < run {
+            if matched < low {
+                return self.cells[start + matched as usize];
+            }
+            return 0;
+        }
+        if selection < matched {
+            return 0;
+        }
+        self.cells[start + low as usize + (matched - run) as usize]
+    }
+
+    // Rule 18.1. The three rules differ in which selections they have, so that one function of a rule would be a match of all three; what they share is
+    // `row_prize`.
+    pub fn standard(&self, selection: u32, matched: u32) -> u16
+        ensures { result ≡ cell standard_rows selection matched }
+    {
+        match selection {
+            1..=15 => self.row_prize(selection as usize - 1, selection, matched),
+            _ => 0,
+        }
+    }
+
+    // Rule 18.2: rule 18.1 but for 6 and 8 numbers.
+    #[tactic(auto, using(crate::proofs::TableLaws::as_standard))]
+    pub fn special_one(&self, selection: u32, matched: u32) -> u16
+        ensures { result ≡ cell special_one_rows selection matched }
+    {
+        match selection {
+            6 => self.row_prize(15, selection, matched),
+            8 => self.row_prize(16, selection, matched),
+            _ => self.standard(selection, matched),
+        }
+    }
+
+    // Rule 18.3: only full matches of 3 to 6 numbers pay.
+    pub fn special_two(&self, selection: u32, matched: u32) -> u16
+        ensures { result ≡ cell special_two_rows selection matched }
+    {
+        match selection {
+            3..=6 => self.row_prize(selection as usize + 14, selection, matched),
+            _ => 0,
+        }
+    }
+}
 
 // The place of a selection's first cell, from its word.
 fn start_of(word: u16) -> usize
@@ -24,59 +160,4 @@ fn low_of(word: u16) -> u32
     ensures { result ≡ low_in word }
 {
     (word % 16) as u32
-}
-
-// The prize for a match of a selection whose word stands at a place. Most matches pay nothing, and the word alone says so.
-fn row_prize(place: usize, selection: u32, matched: u32, schedules: &Table) -> u16
-    requires { WordAt schedules.now place selection }
-    ensures { result ≡ prize_by schedules.now (get_or schedules.now place 0) selection matched }
-{
-    let word = schedules[place];
-    let start = start_of(word);
-    let run = run_of(word);
-    let low = low_of(word);
-    if matched < run {
-        if matched < low {
-            return schedules[start + matched as usize];
-        }
-        return 0;
-    }
-    if selection < matched {
-        return 0;
-    }
-    schedules[start + low as usize + (matched - run) as usize]
-}
-
-// Rule 18.1.
-pub fn standard(selection: u32, matched: u32, schedules: &Table) -> u16
-    requires { Schedules schedules.now }
-    ensures { result ≡ cell standard_rows selection matched }
-{
-    match selection {
-        1..=15 => row_prize(selection as usize - 1, selection, matched, schedules),
-        _ => 0,
-    }
-}
-
-// Rule 18.2: rule 18.1 but for 6 and 8 numbers.
-pub fn special_one(selection: u32, matched: u32, schedules: &Table) -> u16
-    requires { Schedules schedules.now }
-    ensures { result ≡ cell special_one_rows selection matched }
-{
-    match selection {
-        6 => row_prize(15, selection, matched, schedules),
-        8 => row_prize(16, selection, matched, schedules),
-        _ => standard(selection, matched, schedules),
-    }
-}
-
-// Rule 18.3: only full matches of 3 to 6 numbers pay.
-pub fn special_two(selection: u32, matched: u32, schedules: &Table) -> u16
-    requires { Schedules schedules.now }
-    ensures { result ≡ cell special_two_rows selection matched }
-{
-    match selection {
-        3..=6 => row_prize(selection as usize + 14, selection, matched, schedules),
-        _ => 0,
-    }
 }

@@ -13,7 +13,7 @@ use Rattle.house.specs.Tickets.{paid_stakes, held_for}
 use Rattle.house.specs.Commands.{blank_ticket}
 use Rattle.house.specs.Till.{till_of}
 use Rattle.queries.specs.Shown.{shown_till}
-use Rattle.house.specs.View.{row_at, marks_at, ticket_from, ticket_in, PaidWithin, view}
+use Rattle.house.specs.View.{row_at, ticket_in, PaidWithin, view}
 use Rattle.house.specs.Parts.{ComesWith}
 use Rattle.house.specs.declared.state.House.{House}
 use Rattle.house.specs.declared.rows.Row.{Row}
@@ -27,15 +27,15 @@ use Rattle.house.proofs.RowLists.{get_or_table}
 use Rattle.house.proofs.ViewLaws.{live_count}
 
 -- the values below n, added
-unfoldable pub total : (ℕ → ℕ) → ℕ → ℕ
+abbrev pub total : (ℕ → ℕ) → ℕ → ℕ
 total f n = sum (map f (below n))
 
 pub total_none : (f : ℕ → ℕ) → total f 0 ≡ 0
-unfolding total below sum
+unfolding below sum
 total_none f = refl
 
 pub total_more : (f : ℕ → ℕ) (n : ℕ) → total f (n + 1) ≡ total f n + f n
-unfolding total below
+unfolding below
 total_more f n = ap (total f) (add-one n) ∙ sum_snoc f (below n) n
 
 total_grown : (f : ℕ → ℕ) (i k : ℕ) → total f i ≤ total f (i + k)
@@ -56,12 +56,6 @@ due_at words i = (row_at words i).due
 abbrev pub held_at : ℕ → List ℕ → ℕ → ℕ
 held_at game words i = held_for game (ticket_in words [] i)
 
--- what is held for a ticket, from the row that was read
-pub held_of_row : (game : ℕ) (words : List ℕ) (i : ℕ) (w : Row) → w ≡ row_at words i
-    → (held : ℕ) → ((marks : List ℕ) → held ≡ held_for game (ticket_from w marks)) → held ≡ held_at game words i
-held_of_row game words i w read held asked =
-    asked (marks_at [] i) ∙ ap (λ v. held_for game (ticket_from v (marks_at [] i))) read
-
 -- the till of a house, given what is added up for it
 abbrev till_with : House → ℕ → ℕ → ℕ → ℕ → Till
 till_with h owed held pool retained =
@@ -80,11 +74,11 @@ till_with h owed held pool retained =
 
 module _ (h : House) (words marks : List ℕ) where
   pub owed_rows : (till_of (view h words marks)).owed ≡ total (due_at words) h.live
-  unfolding till_of view total
+  unfolding till_of view
   owed_rows = ap sum (map-map (λ t. t.due) (ticket_in words marks) (below h.live))
 
   pub held_rows : (till_of (view h words marks)).held ≡ total (held_at h.game words) h.live
-  unfolding till_of view total paid_stakes
+  unfolding till_of view paid_stakes
   held_rows = ap sum (map-map (held_for h.game) (ticket_in words marks) (below h.live))
 
   -- the other figures are the struct's own

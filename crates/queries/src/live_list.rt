@@ -7,9 +7,10 @@ ghost use Rattle.queries.specs.Listing.{list_bytes, Listing};
 
 use house::rows::read_row;
 use house::state::House;
-use numbers::bytes::write_u32;
+use numbers::bytes::write_number;
+use refusals::refusal::Refusal;
 
-// 0 with the number of live tickets, or the refusal's number.
+// 0 with the number of live tickets, or the refusal's number: a code beside a count, since the struct goes to C as it stands.
 #[repr(C)]
 #[derive(Clone, Copy)]
 pub struct Listed {
@@ -17,18 +18,14 @@ pub struct Listed {
     pub count: u32,
 }
 
-// The numbers of the first tickets, one after another; `left` of them are not written yet.
+// The numbers of the first tickets, one after another.
 fn write_numbers(rows: &[u64; 3200], live: usize, out: &mut [u8])
     requires { (live ≤ 200) × (4 * live ≤ length out.old) × ((i : ℕ) → i < live → (row_at rows.now i).number < 2 ^ 32) }
     ensures { out.new ≡ list_bytes (map (λ i. (row_at rows.now i).number) (below live)) ++ drop (4 * live) out.old }
 {
-    let mut i = 0;
-    let mut left = live;
-    while left > 0 {
-        left -= 1;
+    for i in 0..live {
         let row = read_row(rows, i);
-        write_u32(out, i * 4, row.number as u32);
-        i += 1;
+        write_number::<4>(out, i * 4, row.number);
     }
 }
 
@@ -39,7 +36,10 @@ pub fn live_list(house: House, rows: &[u64; 3200], out: &mut [u8]) -> Listed
 {
     let live = house.live as usize;
     if out.len() < live * 4 {
-        return Listed { code: 30, count: 0 };
+        return Listed {
+            code: u8::from(Refusal::BufferTooShort),
+            count: 0,
+        };
     }
     write_numbers(rows, live, out);
     Listed {

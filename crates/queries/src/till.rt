@@ -1,9 +1,11 @@
 // What can be read off the house: the nine figures of the till, and the jackpots' pools.
-ghost use Rattle.std.specs.Prelude.{◌≡◌, List, ℕ, ◌+◌, ◌-◌, ◌^◌, ◌<◌, min, max};
+ghost use Rattle.std.specs.Prelude.{◌≡◌, List, [], map, ℕ, ◌^◌, ◌<◌, max};
+ghost use Rattle.sale.specs.Lists.{sum, below};
 ghost use Rattle.prizes.specs.Jackpots.{pooled};
 ghost use Rattle.house.specs.Till.{till_of};
-ghost use Rattle.queries.specs.Shown.{shown_till, pools_of};
-ghost use Rattle.house.specs.View.{view};
+ghost use Rattle.queries.specs.Shown.{Tells, shown_till, pools_of};
+ghost use Rattle.house.specs.Tickets.{held_for};
+ghost use Rattle.house.specs.View.{row_at, ticket_in, IsRow, PaidWithin, view};
 ghost use Rattle.house.specs.Parts.{ComesWith};
 
 use house::rows::read_row;
@@ -11,7 +13,8 @@ use house::state::House;
 use house::ticket::held_for;
 use prizes::jackpot::Jackpot;
 
-// The nine figures in document 01's order. Retained is its size, and `negative` says whether it is below zero.
+// The nine figures in document 01's order. Retained is its size, and `negative` says whether it is below zero: a flag beside a size, since the
+// struct goes to C as it stands.
 #[repr(C)]
 #[derive(Clone, Copy)]
 pub struct Till {
@@ -36,29 +39,35 @@ pub struct Pools {
 }
 
 // The pools and the debts as the house keeps them.
+#[tactic(auto, unfolding(house::specs::View::view))]
 pub fn pools_of(house: House) -> Pools
     ensures { (words marks : List ℕ) → result ≡ pools_of (view house words marks) }
 {
-    let six = house.six;
-    let eight = house.eight;
-    Pools { six, eight }
+    Pools {
+        six: house.six,
+        eight: house.eight,
+    }
 }
 
-// The six pools together.
-fn pooled_in(six: Jackpot, eight: Jackpot) -> u64
-    requires { pooled six + pooled eight < 2 ^ 62 }
-    ensures { result ≡ pooled six + pooled eight }
+// The three pools of a jackpot together.
+fn pooled_in(jackpot: Jackpot) -> u64
+    requires { pooled jackpot < 2 ^ 62 }
+    ensures { result ≡ pooled jackpot }
 {
-    let in_six = six.primary + six.secondary + six.reimbursement;
-    let in_eight = eight.primary + eight.secondary + eight.reimbursement;
-    in_six + in_eight
+    jackpot.primary + jackpot.secondary + jackpot.reimbursement
 }
 
-// How far apart two figures are.
-fn apart(a: u64, b: u64) -> u64
-    ensures { result ≡ max a b - min a b }
+// A figure of each live ticket, added up: `at` tells what the figure is at each place.
+fn total_of<F: Fn(usize) -> u64>(live: usize, figure: F) -> u64
+    requires asked { (i : ℕ) → i < live → F.pre figure i }
+    requires fits { (at : ℕ → ℕ) × Tells at live (F.post figure) × (sum (map at (below live)) < 2 ^ 62) }
+    ensures { (at : ℕ → ℕ) → Tells at live (F.post figure) → result ≡ sum (map at (below live)) }
 {
-    if a < b { b - a } else { a - b }
+    let mut sum = 0;
+    for i in 0..live {
+        sum += figure(i);
+    }
+    sum
 }
 
 // What is held for all live tickets.
@@ -67,15 +76,13 @@ fn held_of(house: House, rows: &[u64; 3200]) -> u64
     ensures { (marks : List ℕ) → result ≡ (till_of (view house rows.now marks)).held }
 {
     let game = house.game;
-    let live = house.live as usize;
-    let mut held = 0;
-    let mut i = 0;
-    while i < live {
-        let row = read_row(rows, i);
-        held += held_for(game, row);
-        i += 1;
-    }
-    held
+    total_of(
+        house.live as usize,
+        |i|
+            requires { IsRow i × PaidWithin (max (row_at rows.now i).first game) (row_at rows.now i).stop (row_at rows.now i) }
+            ensures { result ≡ held_for game (ticket_in rows.entry.now [] i) }
+        { held_for(game, read_row(rows, i)) },
+    )
 }
 
 // What is owed to all live tickets.
@@ -83,15 +90,13 @@ fn owed_of(house: House, rows: &[u64; 3200]) -> u64
     requires { ComesWith house rows.now }
     ensures { (marks : List ℕ) → result ≡ (till_of (view house rows.now marks)).owed }
 {
-    let live = house.live as usize;
-    let mut owed = 0;
-    let mut i = 0;
-    while i < live {
-        let row = read_row(rows, i);
-        owed += row.due;
-        i += 1;
-    }
-    owed
+    total_of(
+        house.live as usize,
+        |i|
+            requires { IsRow i }
+            ensures { result ≡ (row_at rows.entry.now i).due }
+        { read_row(rows, i).due },
+    )
 }
 
 // The nine figures of the till. Held and owed are counted from the rows.
@@ -100,10 +105,6 @@ pub fn till_of(house: House, rows: &[u64; 3200]) -> Till
     ensures { (marks : List ℕ) → result ≡ shown_till (till_of (view house rows.now marks)) }
 {
     let counters = house.counters;
-    let six = house.six;
-    let eight = house.eight;
-    let gained = counters.gained;
-    let lost = counters.lost;
     Till {
         taken: counters.taken,
         seeds: counters.seeds,
@@ -112,8 +113,8 @@ pub fn till_of(house: House, rows: &[u64; 3200]) -> Till
         owed: owed_of(house, rows),
         held: held_of(house, rows),
         unclaimed: counters.unclaimed,
-        pooled: pooled_in(six, eight),
-        retained: apart(gained, lost),
-        negative: gained < lost,
+        pooled: pooled_in(house.six) + pooled_in(house.eight),
+        retained: counters.gained.abs_diff(counters.lost),
+        negative: counters.gained < counters.lost,
     }
 }

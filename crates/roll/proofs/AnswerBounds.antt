@@ -1,12 +1,11 @@
 -- What a house answers fits its record's bytes, a refusal as well, which has a code and nothing else.
 use native.Mathlib.Omega.{arith}
-use mathlib.Core.Path.{◌≡◌, refl, ap, ◌∙◌}
+use mathlib.Core.Path.{◌≡◌, refl}
 use mathlib.Core.Bool.{Bool, true, false}
 use lib.Dec.{eqb}
 use borrow.Author.Tests.{eqb-true, eqb-false}
 use Rattle.house.specs.Model.{Model}
 use Rattle.house.specs.Commands.{Command, replies, code_of, step}
-use Rattle.house.specs.declared.answer.Answer.{Answer}
 use Rattle.house.specs.Balance.{Reached}
 use Rattle.house.proofs.EachCommand.{Shown, ShortDay}
 use Rattle.house.proofs.Reliance.{refused_unchanged, accepted_done}
@@ -20,17 +19,3 @@ answer_shown m c reached short = go (eqb (code_of m c) 0) refl
         let code = eqb-true (code_of m c) 0 e in
         rw (accepted_done m c code).1 (reply_shown m c reached short code)
     go false e = rw (refused_unchanged m c (eqb-false (code_of m c) 0 e)).1 (omega arith)
-
--- an answer with a code has nothing else
-pub refused_plain :
-    (m : Model) (c : Command) (a : Answer)
-    → a ≡ (step m c).answer
-    → (a.code ≡ 0 → ⊥)
-    → record { code = a.code; number = 0; cents = 0 } ≡ a
-refused_plain m c a same refused = go (eqb (code_of m c) 0) refl
-  where
-    go : (accepted : Bool) → eqb (code_of m c) 0 ≡ accepted → record { code = a.code; number = 0; cents = 0 } ≡ a
-    go true e = absurd (refused (ap (λ x. x.code) (same ∙ (accepted_done m c (eqb-true (code_of m c) 0 e)).1)))
-    go false e =
-        let plain = same ∙ (refused_unchanged m c (eqb-false (code_of m c) 0 e)).1 in
-        rw plain

@@ -6,51 +6,43 @@ use native.Mathlib.Numerals.{add-one}
 use native.Mathlib.Omega.{arith}
 use mathlib.Core.Path.{◌≡◌, refl, sym, ap, subst, ◌∙◌}
 use mathlib.Core.Bool.{Bool, true, false, cond, ◌||◌}
-use mathlib.Core.List.{List, [], ◌∷◌, map}
+use mathlib.Core.List.{List, [], ◌∷◌}
+use Rattle.std.specs.Prelude.{Option, Some, None, Ok, Err}
 use lib.Dec.{ltb, leb, eqb}
 use lib.ListN.{length, get_or, take, drop, length-drop, length-take, drop_of_length-le}
 use lib.Seq.{drop-cons, drop-drop}
-use borrow.Author.Tests.{leb-true, ltb-false, lt-ltb, le-ltb, ne_eqb, eqb-true}
+use borrow.Author.Tests.{leb-true, ltb-false, lt-ltb, le-ltb, eqb-true}
 use Rattle.numbers.specs.Bytes.{number_of}
 use Rattle.numbers.proofs.ByteLaws.{part_of_first, byte_of_part, two_bytes_below}
-use Rattle.sale.specs.declared.terms.Feature.{Feature}
 use Rattle.house.specs.Commands.{open'}
 use Rattle.house.proofs.Ledger.{All}
 use Rattle.house.proofs.EachCommand.{ShortDay}
 use Rattle.commands.specs.declared.command.Command.{Command}
 use Rattle.roll.specs.Decode.{marks_in, CommandRow, command_rows, CommandByte, unknown, known, row_among, command_row, sale_in, command_of, byte_of}
-use Rattle.roll.specs.Orders.{operands_by, operand_length, operand_bytes, decoded_by, CommandSize, decoded_at}
-use Rattle.roll.specs.declared.decode.Decoded.TheVariants.{Whole, Stop}
-use Rattle.roll.specs.declared.decode.OperandLength.TheVariants.{Bytes, Unknown}
+use Rattle.roll.specs.Orders.{operands_by, operand_length, operand_bytes, command_by, order_by, CommandSize, decoded_at}
+use Rattle.roll.specs.declared.decode.Order.{Order}
+use Rattle.roll.specs.declared.stop.Stop.TheVariants.{UnknownByte, ShortCommand}
 
 -- ---- the table of commands
 
--- a byte that is none of some, and what is known so far, as a match has it in its last arm
-abbrev NoneOf : ℕ → Type 0 → List ℕ → Type 0
-NoneOf byte so_far [] = so_far
-NoneOf byte so_far (b ∷ bs) = NoneOf byte (so_far × (byte ≡ b → ⊥)) bs
-
-none_among :
-    (byte : ℕ) (so_far : Type 0) (rows : List CommandRow)
-    → NoneOf byte so_far (map (λ row. row.byte) rows)
-    → so_far × (row_among rows byte ≡ unknown)
-unfolding row_among
-none_among byte so_far [] none = (none, refl)
-none_among byte so_far (row ∷ rows) none =
-    let later = none_among byte (so_far × (byte ≡ row.byte → ⊥)) rows none in
-    (later.0.0, rw (ne_eqb byte row.byte later.0.1) later.1)
-
-pub other_row : (byte : ℕ) → NoneOf byte (Unit {0}) (map (λ row. row.byte) command_rows) → command_row byte ≡ unknown
-other_row byte none = (none_among byte (Unit {0}) command_rows none).1
-
 -- what the code is told of a byte's operands
-pub operands_told : (looked : CommandByte) (size : ℕ) → operand_length looked ≡ Bytes size → operands_by looked ≡ size
-operands_told unknown size e = let z : ◌≡◌ {A = ℕ} 0 1 = cc in absurd (omega arith)
+pub operands_told : (looked : CommandByte) (size : ℕ) → operand_length looked ≡ Some size → operands_by looked ≡ size
+operands_told unknown size e = absurd (cc)
 operands_told (known row) size e = cc
 
-pub unknown_told : (looked : CommandByte) → operand_length looked ≡ Unknown → looked ≡ unknown
+pub unknown_told : (looked : CommandByte) → operand_length looked ≡ None → looked ≡ unknown
 unknown_told unknown e = refl
-unknown_told (known row) e = let z : ◌≡◌ {A = ℕ} 0 1 = cc in absurd (omega arith)
+unknown_told (known row) e = absurd (cc)
+
+-- a command that was decoded, with its length
+pub order_told :
+    (looked : CommandByte) (rest : List ℕ) (size : ℕ) (command : Command)
+    → Ok command ≡ command_by looked rest
+    → Ok (record { command = command; size = size }) ≡ order_by looked rest size
+order_told unknown rest size command e = absurd (cc)
+order_told (known row) rest size command e =
+    let same : command ≡ row.decoded (take row.operands rest) = cc in
+    ap (λ (c : Command). Ok (record { command = c; size = size })) same
 
 -- the row that is found for a byte has that byte, and what holds of each row
 found : (P : CommandRow → Type 0) (rows : List CommandRow) → All P rows → (byte : ℕ) (row : CommandRow) → row_among rows byte ≡ known row → (row.byte ≡ byte) × P row
@@ -135,7 +127,7 @@ short_day byte row rest e small = (row_found byte row e).1.short rest small
 
 -- A sale's operands up to the marks, from where they start in a list; of the bytes that belong to the sale the first eight are read.
 pub sale_in_lem :
-    (n : ℕ) → 8 ≤ n → (feature : Feature) (l : List ℕ) (at stake : ℕ)
+    (n : ℕ) → 8 ≤ n → (feature : Option ℕ) (l : List ℕ) (at stake : ℕ)
     → stake ≡ number_of (take 4 (drop (at + 2) l))
     → record { kind = get_or l at 0; games = get_or l (at + 1) 0; stake = stake; groups = get_or l (at + 6) 0; types = get_or l (at + 7) 0; feature = feature }
     ≡ sale_in feature (take n (drop at l))
@@ -162,19 +154,19 @@ module _ (l : List ℕ) (at : ℕ) (within : at < length l) where
   left_over : length (drop (suc at) l) ≡ length l - (at + 1)
   left_over = length-drop (suc at) l ∙ ap (λ n. length l - n) (sym (add-one at))
 
-  pub unknown_there : command_row byte ≡ unknown → decoded_at (drop at l) ≡ Stop 1
+  pub unknown_there : command_row byte ≡ unknown → decoded_at (drop at l) ≡ Err UnknownByte
   unfolding decoded_at
   unknown_there none =
       rw (drop-cons l at 0 within, none, le-ltb (length (drop (suc at) l)) 0 (omega arith))
 
-  pub short_there : length l - (at + 1) < operand_bytes byte → decoded_at (drop at l) ≡ Stop 2
+  pub short_there : length l - (at + 1) < operand_bytes byte → decoded_at (drop at l) ≡ Err ShortCommand
   unfolding decoded_at
   short_there short =
       rw (drop-cons l at 0 within, lt-ltb (length (drop (suc at) l)) (operand_bytes byte) (omega (arith, left_over)))
 
   pub whole_there :
       operand_bytes byte ≤ length l - (at + 1)
-      → decoded_at (drop at l) ≡ decoded_by (command_row byte) (drop (at + 1) l) (operand_bytes byte + 1)
+      → decoded_at (drop at l) ≡ order_by (command_row byte) (drop (at + 1) l) (operand_bytes byte + 1)
   unfolding decoded_at
   whole_there enough =
       rw (
@@ -194,20 +186,21 @@ pub record Stands (roll : List ℕ) (order : Command) (size : ℕ) : Type 0 wher
   pub is : order ≡ row.decoded (take row.operands rest)
   pub long : size ≡ row.operands + 1
 
-pub stands : (roll : List ℕ) (order : Command) (size : ℕ) → decoded_at roll ≡ Whole order size → Stands roll order size
+pub stands : (roll : List ℕ) (order : Order) → decoded_at roll ≡ Ok order → Stands roll order.command order.size
 unfolding decoded_at
-stands [] order size e = let z : ◌≡◌ {A = ℕ} 0 1 = cc in absurd (omega arith)
-stands (byte ∷ rest) order size e = go (command_row byte) (ltb (length rest) (operand_bytes byte)) refl refl e
+stands [] order e = absurd (cc)
+stands (byte ∷ rest) order e = go (command_row byte) (ltb (length rest) (operand_bytes byte)) refl refl e
   where
     go :
         (looked : CommandByte) (short : Bool)
         → command_row byte ≡ looked
         → ltb (length rest) (operands_by looked) ≡ short
-        → cond short (Stop 2) (decoded_by looked rest (operands_by looked + 1)) ≡ Whole order size
-        → Stands (byte ∷ rest) order size
-    go looked true p q e = let z : ◌≡◌ {A = ℕ} 0 1 = cc in absurd (omega arith)
-    go unknown false p q e = let z : ◌≡◌ {A = ℕ} 0 1 = cc in absurd (omega arith)
+        → cond short (Err ShortCommand) (order_by looked rest (operands_by looked + 1)) ≡ Ok order
+        → Stands (byte ∷ rest) order.command order.size
+    go looked true p q e = absurd (cc)
+    go unknown false p q e = absurd (cc)
     go (known row) false p q e =
+        let same : ◌≡◌ {A = Order} order (record { command = row.decoded (take row.operands rest); size = row.operands + 1 }) = cc in
         record {
           byte = byte;
           rest = rest;
@@ -215,8 +208,8 @@ stands (byte ∷ rest) order size e = go (command_row byte) (ltb (length rest) (
           begins = refl;
           has = p;
           enough = ltb-false (length rest) row.operands q;
-          is = cc;
-          long = cc;
+          is = ap (λ (o : Order). o.command) same;
+          long = ap (λ (o : Order). o.size) same;
         }
 
 -- it has marks, or ends before them

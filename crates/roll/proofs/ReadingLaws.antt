@@ -6,10 +6,11 @@ use native.Mathlib.Omega.{arith}
 use mathlib.Core.Path.{◌≡◌, refl, sym, ap, ap₂, subst, ◌∙◌}
 use mathlib.Core.Bool.{Bool, true, false, cond}
 use mathlib.Core.List.{List, [], ◌∷◌, ◌++◌, append_assoc, append-nil}
-use lib.Dec.{ltb, eqb}
+use Rattle.std.specs.Prelude.{Result, Ok, Err}
+use lib.Dec.{ltb}
 use lib.ListN.{length, get_or, take, drop, take-append-drop, length-append, length-take, length-drop, drop_of_length-le}
 use lib.Seq.{length-take-le, take_all, drop-drop, drop_at, take_at, get_or-drop}
-use borrow.Author.Tests.{lt-ltb, le-ltb, eqb-true, eq-eqb}
+use borrow.Author.Tests.{lt-ltb, le-ltb}
 use borrow.Rule.Slice.PartMut.{put_mid}
 use Rattle.house.specs.Model.{Model}
 use Rattle.house.specs.Commands.{step}
@@ -21,9 +22,11 @@ use Rattle.commands.specs.declared.command.Command.{Command}
 use Rattle.numbers.specs.Bytes.{bytes_of}
 use Rattle.roll.specs.Decode.{marks_in, CommandRow, CommandByte, unknown, known, command_row, command_of, record_of}
 use Rattle.roll.specs.Reading.{Reading, stopped, answered, turn_at, read_turns, read_roll, AllRefused}
-use Rattle.roll.specs.Orders.{operands_by, decoded_by, decoded_at, verdict_of, reading_of}
-use Rattle.roll.specs.declared.decode.Decoded.TheVariants.{Whole, Stop}
-use Rattle.roll.specs.declared.reader.Verdict.TheVariants.{Accepted, Refused}
+use Rattle.roll.specs.Stop.{stop_number}
+use Rattle.roll.specs.Orders.{operands_by, order_by, decoded_at, reading_of}
+use Rattle.roll.specs.declared.stop.Stop.{Stop}
+use Rattle.roll.specs.declared.stop.Stop.TheVariants.{RollEnded, UnknownByte, ShortCommand, BookFull}
+use Rattle.roll.specs.declared.decode.Order.{Order}
 use Rattle.roll.proofs.DecodeLaws.{Stands}
 
 -- ---- one turn
@@ -35,29 +38,29 @@ answered_by turns m book size c byte rest =
 
 -- nothing whole stands there
 pub turn_stops :
-    (turns : ℕ) (m : Model) (roll book : List ℕ) (code : ℕ)
-    → decoded_at roll ≡ Stop code
-    → read_turns (suc turns) m roll book ≡ stopped m code book
+    (turns : ℕ) (m : Model) (roll book : List ℕ) (stop : Stop)
+    → decoded_at roll ≡ Err stop
+    → read_turns (suc turns) m roll book ≡ stopped m (stop_number stop) book
 unfolding decoded_at read_turns
-turn_stops turns m [] book code e = let same : 0 ≡ code = cc in ap (λ k. stopped m k book) same
-turn_stops turns m (byte ∷ rest) book code e = go (command_row byte) e
+turn_stops turns m [] book stop e = let same : RollEnded ≡ stop = cc in ap (λ s. stopped m (stop_number s) book) same
+turn_stops turns m (byte ∷ rest) book stop e = go (command_row byte) e
   where
     short_stops :
-        (short : Bool) (order : Command) (size : ℕ) (more : Reading)
-        → cond short (Stop 2) (Whole order size) ≡ Stop code
-        → cond short (stopped m 2 book) more ≡ stopped m code book
-    short_stops true order size more e = let same : 2 ≡ code = cc in ap (λ k. stopped m k book) same
-    short_stops false order size more e = let z : ◌≡◌ {A = ℕ} 0 1 = cc in absurd (omega arith)
+        (short : Bool) (order : Order) (more : Reading)
+        → cond short (Err ShortCommand) (Ok order) ≡ Err stop
+        → cond short (stopped m 2 book) more ≡ stopped m (stop_number stop) book
+    short_stops true order more e = let same : ShortCommand ≡ stop = cc in ap (λ s. stopped m (stop_number s) book) same
+    short_stops false order more e = absurd (cc)
 
     go :
         (looked : CommandByte)
-        → cond (ltb (length rest) (operands_by looked)) (Stop 2) (decoded_by looked rest (operands_by looked + 1)) ≡ Stop code
-        → turn_at (read_turns turns) m byte rest book looked ≡ stopped m code book
+        → cond (ltb (length rest) (operands_by looked)) (Err ShortCommand) (order_by looked rest (operands_by looked + 1)) ≡ Err stop
+        → turn_at (read_turns turns) m byte rest book looked ≡ stopped m (stop_number stop) book
     go unknown e =
-        let never : Stop 1 ≡ Stop code = rw (le-ltb (length rest) 0 (omega arith)) at e in
-        let same : 1 ≡ code = cc in
-        ap (λ k. stopped m k book) same
-    go (known row) e = short_stops (ltb (length rest) row.operands) _ _ _ e
+        let never : ◌≡◌ {A = Result Order Stop} (Err UnknownByte) (Err stop) = rw (le-ltb (length rest) 0 (omega arith)) at e in
+        let same : UnknownByte ≡ stop = cc in
+        ap (λ s. stopped m (stop_number s) book) same
+    go (known row) e = short_stops (ltb (length rest) row.operands) _ _ e
 
 -- a known command with all its bytes, and room for its answer
 turn_known :
@@ -141,32 +144,6 @@ module _ (book entry : List ℕ) (at : ℕ) (long : length entry ≡ 14) (room :
         length-drop 14 (drop at book),
         length-drop at book,
       )
-
--- ---- verdicts
-
-pub verdict_accepted :
-    (a : Answer) (number cents : ℕ) → verdict_of a ≡ Accepted number cents → record { code = 0; number = number; cents = cents } ≡ a
-unfolding verdict_of
-verdict_accepted a number cents e = go (eqb a.code 0) refl e
-  where
-    go :
-        (carried : Bool)
-        → eqb a.code 0 ≡ carried
-        → cond carried (Accepted a.number a.cents) (Refused a.code) ≡ Accepted number cents
-        → record { code = 0; number = number; cents = cents } ≡ a
-    go true p q =
-        let code : 0 ≡ a.code = sym (eqb-true a.code 0 p) in
-        let n : number ≡ a.number = cc in
-        let k : cents ≡ a.cents = cc in
-        λ i. record { code = code i; number = n i; cents = k i }
-    go false p q = let z : ◌≡◌ {A = ℕ} 0 1 = cc in absurd (omega arith)
-
-pub verdict_refused : (a : Answer) (code : ℕ) → verdict_of a ≡ Refused code → a.code ≡ 0 → ⊥
-unfolding verdict_of
-verdict_refused a code e zero_code =
-    let carried : Accepted a.number a.cents ≡ Refused code = rw (eq-eqb a.code 0 zero_code) at e in
-    let z : ◌≡◌ {A = ℕ} 0 1 = cc in
-    absurd (omega arith)
 
 -- ---- the whole reading, by what is left of it
 
@@ -274,8 +251,9 @@ module _ (quiet : Type 0) (whole : Reading) (m : Model) (roll book : List ℕ) (
       }
 
   -- the last turn
-  pub ahead_stops : (code : ℕ) → decoded_at (drop read roll) ≡ Stop code → Ended whole m code read answers book
-  ahead_stops code decoded = go a.turns a.enough a.joins
+  pub ahead_stops :
+      (stop : Stop) (code : ℕ) → code ≡ stop_number stop → decoded_at (drop read roll) ≡ Err stop → Ended whole m code read answers book
+  ahead_stops stop code told decoded = go a.turns a.enough a.joins
     where
       go :
           (turns : ℕ)
@@ -285,22 +263,24 @@ module _ (quiet : Type 0) (whole : Reading) (m : Model) (roll book : List ℕ) (
       go zero enough j = absurd (omega (arith, a.within))
       go (suc turns) enough j =
           ends code
-          (subst (λ r. Joins whole r (take done book) read answers) (turn_stops turns m (drop read roll) (drop done book) code decoded) j)
+          (subst (λ r. Joins whole r (take done book) read answers)
+          (turn_stops turns m (drop read roll) (drop done book) stop decoded ∙ ap (λ n. stopped m n (drop done book)) (sym told)) j)
 
   module _ (order : Command) (size : ℕ) (s : Stands (drop read roll) order size) where
-    pub ahead_full : length book < done + 14 → Ended whole m 3 read answers book
-    ahead_full full = go a.turns a.enough a.joins
+    pub ahead_full : (code : ℕ) → code ≡ stop_number BookFull → length book < done + 14 → Ended whole m code read answers book
+    ahead_full code told full = go a.turns a.enough a.joins
       where
         go :
             (turns : ℕ)
             → length roll < read + turns
             → Joins whole (read_turns turns m (drop read roll) (drop done book)) (take done book) read answers
-            → Ended whole m 3 read answers book
+            → Ended whole m code read answers book
         go zero enough j = absurd (omega (arith, a.within))
         go (suc turns) enough j =
-            ends 3
+            ends code
             (subst (λ r. Joins whole r (take done book) read answers)
-            (turn_full turns m (drop read roll) (drop done book) order size s (omega (arith, length-drop done book))) j)
+            (turn_full turns m (drop read roll) (drop done book) order size s (omega (arith, length-drop done book))
+            ∙ ap (λ n. stopped m n (drop done book)) (sym told)) j)
 
     -- the command ends within the roll
     pub command_within : read + size ≤ length roll

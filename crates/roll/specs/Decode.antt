@@ -1,11 +1,9 @@
 -- The table of commands: 01h "Open: day (2)"; 02h "Sell: kind (1), games (1), stake (4), groups (1), types (1), marks (80)"; 03h "Cancel: ticket (4)";
 -- 04h "Ball: number (1)"; 05h "Claim: ticket (4)"; 06h "Expire"; 07h "Transfer: jackpot 6 or 8 (1), cents (4)"; "Command 08h has Sell's operands and then
 -- a feature stake (4 bytes)". And "writes 14 bytes each [..]: command byte, code (0 or the refusal), number (4), cents (8)".
-use Rattle.std.specs.Prelude.{ℕ, cond, List, [], ◌∷◌, ◌++◌, eqb, get_or, take, drop}
+use Rattle.std.specs.Prelude.{ℕ, cond, Option, Some, None, List, [], ◌∷◌, ◌++◌, eqb, get_or, take, drop}
 use Rattle.numbers.specs.Bytes.{number_of, bytes_of}
 use Rattle.sale.specs.declared.terms.Sale.{Sale}
-use Rattle.sale.specs.declared.terms.Feature.{Feature}
-use Rattle.sale.specs.declared.terms.Feature.TheVariants.{Absent, LuckyLast}
 use Rattle.house.specs.Commands.{open', sell, cancel, ball, claim, expire, transfer}
 use Rattle.house.specs.declared.answer.Answer.{Answer}
 use Rattle.commands.specs.Meant.{meant}
@@ -13,7 +11,7 @@ use Rattle.commands.specs.declared.command.Command.{Command}
 use Rattle.commands.specs.declared.command.Command.TheVariants.{Open, Sell, Cancel, Ball, Claim, Expire, Transfer}
 
 -- a sale's operands up to the marks, with a feature or without one
-abbrev pub sale_in : Feature → List ℕ → Sale
+abbrev pub sale_in : Option ℕ → List ℕ → Sale
 sale_in feature bytes =
     record {
       kind = get_or bytes 0 0;
@@ -29,8 +27,8 @@ abbrev pub marks_in : List ℕ → List ℕ
 marks_in bytes = take 80 (drop 8 bytes)
 
 -- and, behind Sell's 88 bytes, the feature stake of Lucky Last
-abbrev pub feature_in : List ℕ → Feature
-feature_in bytes = LuckyLast (number_of (drop 88 bytes))
+abbrev pub feature_in : List ℕ → Option ℕ
+feature_in bytes = Some (number_of (drop 88 bytes))
 
 -- a row of the table: the command's byte, how many operand bytes follow it, and the decoded command that they are read as, a sale without its marks
 pub record CommandRow : Type 0 where
@@ -42,7 +40,7 @@ pub record CommandRow : Type 0 where
 unfoldable pub command_rows : List CommandRow
 command_rows =
     record { byte = 1; operands = 2; decoded = λ bytes. Open (number_of bytes) }
-    ∷ record { byte = 2; operands = 88; decoded = λ bytes. Sell (sale_in Absent bytes) }
+    ∷ record { byte = 2; operands = 88; decoded = λ bytes. Sell (sale_in None bytes) }
     ∷ record { byte = 3; operands = 4; decoded = λ bytes. Cancel (number_of bytes) }
     ∷ record { byte = 4; operands = 1; decoded = λ bytes. Ball (get_or bytes 0 0) }
     ∷ record { byte = 5; operands = 4; decoded = λ bytes. Claim (number_of bytes) }
@@ -68,9 +66,9 @@ abbrev pub command_of : CommandRow → List ℕ → Rattle.house.specs.Commands.
 command_of row bytes = meant (row.decoded bytes) (marks_in bytes)
 
 -- the byte of a sale
-abbrev pub sale_byte : Feature → ℕ
-sale_byte Absent = 2
-sale_byte (LuckyLast stake) = 8
+abbrev pub sale_byte : Option ℕ → ℕ
+sale_byte None = 2
+sale_byte (Some stake) = 8
 
 -- the byte of a command
 abbrev pub byte_of : Rattle.house.specs.Commands.Command → ℕ

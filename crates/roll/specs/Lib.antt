@@ -1,3 +1,4 @@
+pub mod Stop
 pub mod Decode
 pub mod Reading
 pub mod Balance

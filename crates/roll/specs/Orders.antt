@@ -1,17 +1,16 @@
 -- What the decoder answers, and what the reader's parts leave: the definitions that the contracts of this crate's functions cite.
-use Rattle.std.specs.Prelude.{ℕ, ◌+◌, ◌≡◌, true, cond, ◌||◌, List, [], ◌∷◌, ltb, leb, eqb, length, take}
-use Rattle.house.specs.declared.answer.Answer.{Answer}
+use Rattle.std.specs.Prelude.{ℕ, ◌+◌, ◌≡◌, true, cond, ◌||◌, List, [], ◌∷◌, ◌++◌, Option, Some, None, Result, Ok, Err, ltb, leb, length, take, drop}
+use Rattle.commands.specs.declared.command.Command.{Command}
 use Rattle.house.specs.declared.state.House.{House}
+use Rattle.house.specs.Commands.{step}
 use Rattle.house.specs.View.{view}
-use Rattle.roll.specs.Decode.{CommandByte, unknown, known, command_row}
+use Rattle.roll.specs.Decode.{CommandByte, unknown, known, command_row, record_of}
 use Rattle.roll.specs.Reading.{Reading, read_roll, AllRefused}
-use Rattle.roll.specs.declared.decode.Decoded.{Decoded}
-use Rattle.roll.specs.declared.decode.Decoded.TheVariants.{Whole, Stop}
-use Rattle.roll.specs.declared.decode.OperandLength.{OperandLength}
-use Rattle.roll.specs.declared.decode.OperandLength.TheVariants.{Bytes, Unknown}
+use Rattle.roll.specs.Stop.{stop_number}
+use Rattle.roll.specs.declared.stop.Stop.{Stop}
+use Rattle.roll.specs.declared.stop.Stop.TheVariants.{RollEnded, UnknownByte, ShortCommand}
+use Rattle.roll.specs.declared.decode.Order.{Order}
 use Rattle.roll.specs.declared.reader.Report.{Report}
-use Rattle.roll.specs.declared.reader.Verdict.{Verdict}
-use Rattle.roll.specs.declared.reader.Verdict.TheVariants.{Accepted, Refused}
 
 -- how many operand bytes follow a command byte: none behind an unknown one
 abbrev pub operands_by : CommandByte → ℕ
@@ -22,14 +21,19 @@ abbrev pub operand_bytes : ℕ → ℕ
 operand_bytes byte = operands_by (command_row byte)
 
 -- the same as the code has it
-abbrev pub operand_length : CommandByte → OperandLength
-operand_length unknown = Unknown
-operand_length (known row) = Bytes row.operands
+abbrev pub operand_length : CommandByte → Option ℕ
+operand_length unknown = None
+operand_length (known row) = Some row.operands
 
--- a command of so many bytes from its row and what follows its byte; an unknown byte is none
-abbrev pub decoded_by : CommandByte → List ℕ → ℕ → Decoded
-decoded_by unknown rest size = Stop 1
-decoded_by (known row) rest size = Whole (row.decoded (take row.operands rest)) size
+-- a command from its row and what follows its byte; an unknown byte is none
+abbrev pub command_by : CommandByte → List ℕ → Result Command Stop
+command_by unknown rest = Err UnknownByte
+command_by (known row) rest = Ok (row.decoded (take row.operands rest))
+
+-- the same with the command's length
+abbrev pub order_by : CommandByte → List ℕ → ℕ → Result Order Stop
+order_by unknown rest size = Err UnknownByte
+order_by (known row) rest size = Ok (record { command = row.decoded (take row.operands rest); size = size })
 
 -- Bytes of a command: a sale's are enough for its marks, and another command ends before marks would begin. So `marks_in` of its operands is what is lent
 -- with any command: the marks of a sale, and nothing with another.
@@ -37,19 +41,22 @@ pub record CommandSize (size : ℕ) : Type 0 where
   pub apart : (leb size 9 || leb 89 size) ≡ true
 
 -- what stands at the start of a part of a roll
-unfoldable pub decoded_at : List ℕ → Decoded
-decoded_at [] = Stop 0
+unfoldable pub decoded_at : List ℕ → Result Order Stop
+decoded_at [] = Err RollEnded
 decoded_at (byte ∷ rest) =
-    cond (ltb (length rest) (operand_bytes byte)) (Stop 2) (decoded_by (command_row byte) rest (operand_bytes byte + 1))
+    cond (ltb (length rest) (operand_bytes byte)) (Err ShortCommand) (order_by (command_row byte) rest (operand_bytes byte + 1))
 
--- the stop code of what is no whole command
-abbrev pub stop_of : Decoded → ℕ
-stop_of (Whole order size) = 0
-stop_of (Stop code) = code
+-- the number that hosts read of it: 0 where it is a whole command
+abbrev pub stop_of : Result Order Stop → ℕ
+stop_of (Ok order) = 0
+stop_of (Err stop) = stop_number stop
 
--- how a command ended, from its answer
-unfoldable pub verdict_of : Answer → Verdict
-verdict_of a = cond (eqb a.code 0) (Accepted a.number a.cents) (Refused a.code)
+-- a command answered into a part of a book: the house after it, its record behind which the part is as it was, and where the command is refused struct,
+-- words and marks are those before
+pub record Answered (h : House) (words marks : List ℕ) (c : Rattle.house.specs.Commands.Command) (byte : ℕ) (part : List ℕ) (after : House) (words' marks' part' : List ℕ) : Type 0 where
+  pub house : view after words' marks' ≡ (step (view h words marks) c).house
+  pub written : part' ≡ record_of byte (step (view h words marks) c).answer ++ drop 14 part
+  pub refused : ((step (view h words marks) c).answer.code ≡ 0 → ⊥) → (after ≡ h) × (words' ≡ words) × (marks' ≡ marks)
 
 -- the reading of a roll into a book, from the house that is handed in with the words and marks that are lent
 abbrev pub reading_of : House → List ℕ → List ℕ → List ℕ → List ℕ → Reading

@@ -5,3 +5,4 @@
 pub mod decode;
 pub mod reader;
 pub mod record;
+pub mod stop;

@@ -3,15 +3,18 @@ ghost use Rattle.std.specs.Prelude.{◌≡◌, ◌+◌, ◌-◌, ◌≤◌, leng
 ghost use Rattle.house.specs.Balance.{Reached};
 ghost use Rattle.house.specs.View.{view};
 ghost use Rattle.roll.specs.Decode.{marks_in};
-ghost use Rattle.roll.specs.Orders.{CommandSize, stop_of, verdict_of, Reported};
+ghost use Rattle.commands.specs.Meant.{meant};
+ghost use Rattle.roll.specs.Orders.{CommandSize, stop_of, Answered, Reported};
 
-use crate::decode::{Decoded, decode};
+use crate::decode::{Order, decode};
 use crate::record::write_record;
-use commands::command::carry_out;
+use crate::stop::Stop;
+use commands::command::{Command, carry_out};
 use house::answer::Answer;
 use house::state::House;
 
-// The house after a roll, the stop code, the bytes of the answered commands, and how many answers were written.
+// The house after a roll, the stop code, the bytes of the answered commands, and how many answers were written. Hosts in C
+// read it in this layout, so that the stop is its number.
 #[repr(C)]
 #[derive(Clone, Copy)]
 pub struct Report {
@@ -21,29 +24,13 @@ pub struct Report {
     pub answers: usize,
 }
 
-// How a command ended: accepted, with its number and cents, or refused.
-#[derive(Clone, Copy)]
-enum Verdict {
-    Accepted(u32, u64),
-    Refused(u8),
-}
-
-fn verdict_of(answer: Answer) -> Verdict
-    ensures { result ≡ verdict_of answer }
-{
-    let code = answer.code;
-    if code == 0 {
-        return Verdict::Accepted(answer.number, answer.cents);
-    }
-    Verdict::Refused(code)
-}
-
-fn stop_code(decoded: Decoded) -> u8
+// The number of a stop; that of a whole command is 0.
+fn stop_code(decoded: Result<Order, Stop>) -> u8
     ensures { result ≡ stop_of decoded }
 {
     match decoded {
-        Decoded::Whole(_, _) => 0,
-        Decoded::Stop(code) => code,
+        Ok(_) => 0,
+        Err(stop) => u8::from(stop),
     }
 }
 
@@ -56,9 +43,7 @@ fn marks_of(roll: &[u8], at: usize, size: usize) -> &[u8]
     if size < 89 {
         return &roll[at..at];
     }
-    let start = at + 9;
-    let end = at + 89;
-    &roll[start..end]
+    &roll[at + 9..at + 89]
 }
 
 impl Report {
@@ -66,13 +51,31 @@ impl Report {
     pub fn unread<'a>(self, roll: &'a [u8]) -> &'a [u8]
         ensures { result.now ≡ drop self.read roll.now }
     {
-        let read = self.read;
-        let end = roll.len();
-        if end <= read {
-            return &roll[end..end];
-        }
-        &roll[read..]
+        &roll[self.read.min(roll.len())..]
     }
+}
+
+// Carries out a command and writes its answer at the start of a part of the book. A function of its own, so that the loop of the reader has one way round:
+// with two, the compiler works out for each accepted command what only a run of refused ones would spare.
+fn answer_order(
+    house: &mut House,
+    rows: &mut [u64; 3200],
+    marks: &mut [u8; 16000],
+    command: Command,
+    from: &[u8],
+    byte: u8,
+    book: &mut [u8],
+)
+    requires { Reached (view house.old rows.old marks.old) × (14 ≤ length book.old) }
+    ensures { Answered house.old rows.old marks.old (meant command from.now) byte book.old house.new rows.new marks.new book.new }
+{
+    let ended = carry_out(house, rows, marks, command, from);
+    let Ok(receipt) = ended else {
+        let refused = Answer::from(ended);
+        write_record(book, byte, refused.code, 0, 0);
+        return;
+    };
+    write_record(book, byte, 0, receipt.number, receipt.cents);
 }
 
 // Reads a roll until it ends, a byte is unknown, too few bytes are left or the book has no room for an answer.
@@ -91,11 +94,10 @@ pub fn read_roll(
     let mut answers = 0;
     loop {
         let decoded = decode(roll, read);
-        let Decoded::Whole(command, size) = decoded else {
-            let stop = stop_code(decoded);
+        let Ok(order) = decoded else {
             return Report {
                 house: here,
-                stop,
+                stop: stop_code(decoded),
                 read,
                 answers,
             };
@@ -104,23 +106,21 @@ pub fn read_roll(
         if book.len() - written < 14 {
             return Report {
                 house: here,
-                stop: 3,
+                stop: u8::from(Stop::BookFull),
                 read,
                 answers,
             };
         }
-        let byte = roll[read];
-        let from = marks_of(roll, read, size);
-        let outcome = carry_out(here, rows, marks, command, from);
-        here = outcome.house;
-        read += size;
+        answer_order(
+            &mut here,
+            rows,
+            marks,
+            order.command,
+            marks_of(roll, read, order.size),
+            roll[read],
+            &mut book[written..],
+        );
+        read += order.size;
         answers += 1;
-        let answer = outcome.answer;
-        let code = answer.code;
-        let Verdict::Accepted(number, cents) = verdict_of(answer) else {
-            write_record(&mut book[written..], byte, code, 0, 0);
-            continue;
-        };
-        write_record(&mut book[written..], byte, 0, number, cents);
     }
 }

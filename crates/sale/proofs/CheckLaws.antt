@@ -2,33 +2,28 @@
 use mathlib.Core.Path.{◌≡◌, refl, sym, ap, ◌∙◌}
 use mathlib.Core.Bool.{Bool, true, false, cond, not, ◌&&◌, false≢true}
 use mathlib.Core.List.{List, [], ◌∷◌, ◌++◌}
-use Prim.Native.Nat.{ℕ, ◌+◌, ◌*◌, ◌/◌, ◌≤◌, ◌<◌}
+use Prim.Native.Nat.{ℕ, ◌*◌, ◌/◌, ◌≤◌, ◌<◌}
 use native.Mathlib.Nat.{div-eq_of_lt, le-div_iff_mul-le, one-mul}
-use native.Mathlib.Numerals.{add-one}
 use native.Mathlib.Omega.{arith}
 use lib.Dec.{leb, eqb}
-use lib.ListN.{length, get_or, take, drop, drop_of_length-le}
-use lib.Seq.{drop-cons}
+use lib.ListN.{length, take}
 use borrow.Author.Tests.{eq-eqb, ne_eqb, leb-true, leb-false, not-true}
+use Rattle.std.specs.List.{list_all}
+use Rattle.std.specs.Prelude.{Option, None, Some}
+use Rattle.std.specs.Option.{unwrap_or}
+use Rattle.refusals.specs.Refusal.{refusal_number}
+use Rattle.refusals.specs.declared.refusal.Refusal.{Refusal}
+use Rattle.refusals.proofs.Refusals.{refusal_some}
 use Rattle.sale.specs.Lists.{every}
 use Rattle.sale.specs.Ways.{sizes}
-use Rattle.sale.specs.Checks.{Operands, first_met, marks_fit, operand_code, accepted_quote, refused_quote, quote_of}
+use Rattle.sale.specs.Checks.{first_met, marks_fit, Operands, feature_stake, mark_rows, way_rows, feature_row, stake_row, feature_stake_row, charge_row, price_rows, operand_rows, operand_code}
 use Rattle.sale.proofs.KeepLaws.{and_right}
 
-module _ {A : Type 0} (f : A → Bool) where
-  -- a test on every element, one element after the other
-  module _ (xs : List A) (i : ℕ) (ahead : every f (drop i xs) ≡ every f xs) where
-    pub every_failed : (d : A) → i < length xs → f (get_or xs i d) ≡ false → false ≡ every f xs
-    unfolding every
-    every_failed d inside e = sym (ap (every f) (drop-cons xs i d inside) ∙ rw e) ∙ ahead
-
-    pub every_passed : (d : A) → i < length xs → f (get_or xs i d) ≡ true → every f (drop (i + 1) xs) ≡ every f xs
-    unfolding every
-    every_passed d inside e = rw add-one (sym (ap (every f) (drop-cons xs i d inside) ∙ rw e) ∙ ahead)
-
-    pub every_done : length xs ≤ i → true ≡ every f xs
-    unfolding every
-    every_done end = sym (ap (every f) (drop_of_length-le xs end)) ∙ ahead
+-- std's test of every element is ours
+pub list_all_every : {A : Type 0} (f : A → Bool) (xs : List A) → list_all f xs ≡ every f xs
+unfolding every
+list_all_every f [] = refl
+list_all_every f (x ∷ xs) = ap (λ rest. f x && rest) (list_all_every f xs)
 
 pub small_quotient : (t n : ℕ) → 0 < n → eqb (t / n) 0 ≡ not (leb n t)
 small_quotient t n some = go (leb n t) refl
@@ -108,12 +103,66 @@ module _ (rows more : List (Bool × ℕ)) (n : nonzero rows ≡ true) {code : �
   pub stage_passed : code ≡ 0 → first_met (rows ++ more) ≡ first_met more
   stage_passed none = first_met_append rows more n ∙ rw (← first, none)
 
--- ---- the quote
+-- a stage that ends in a refusal, and one that is passed
+module _ (rows more : List (Bool × ℕ)) (n : nonzero rows ≡ true) where
+  pub stage_err : (refusal : Refusal) → refusal_number refusal ≡ first_met rows → first_met (rows ++ more) ≡ refusal_number refusal
+  stage_err refusal first = stage_refused rows more n first (refusal_some refusal)
 
-pub refusal : (o : Operands) {code : ℕ} → operand_code o ≡ code → (code ≡ 0 → ⊥) → refused_quote code ≡ quote_of o
-unfolding quote_of
-refusal o {code} met some = rw (met, ne_eqb code 0 some)
+  pub stage_ok : 0 ≡ first_met rows → first_met (rows ++ more) ≡ first_met more
+  stage_ok first = stage_passed rows more n first refl
 
-pub acceptance : (o : Operands) → operand_code o ≡ 0 → accepted_quote o ≡ quote_of o
-unfolding quote_of
-acceptance o met = rw met
+-- the feature stake, or 0 where a sale enters no feature
+pub staked_or_none : (feature : Option ℕ) → unwrap_or feature 0 ≡ feature_stake feature
+staked_or_none None = refl
+staked_or_none (Some stake) = refl
+
+-- ---- the stages of a sale's table: each decides once those before it are passed
+
+module _ (o : Operands) where
+  pub refused_by_feature : (e : Refusal) → refusal_number e ≡ first_met (feature_row o ∷ []) → refusal_number e ≡ first_met (price_rows o)
+  unfolding every
+  refused_by_feature e first = sym (stage_err (feature_row o ∷ []) (stake_row o ∷ feature_stake_row o ∷ charge_row o ∷ []) refl e first)
+
+  module _ (feature : 0 ≡ first_met (feature_row o ∷ [])) where
+    past_feature : first_met (price_rows o) ≡ first_met (stake_row o ∷ feature_stake_row o ∷ charge_row o ∷ [])
+    unfolding every
+    past_feature = stage_ok (feature_row o ∷ []) (stake_row o ∷ feature_stake_row o ∷ charge_row o ∷ []) refl feature
+
+    pub refused_by_stake : (e : Refusal) → refusal_number e ≡ first_met (stake_row o ∷ []) → refusal_number e ≡ first_met (price_rows o)
+    unfolding every
+    refused_by_stake e first = sym (past_feature ∙ stage_err (stake_row o ∷ []) (feature_stake_row o ∷ charge_row o ∷ []) refl e first)
+
+    module _ (stake : 0 ≡ first_met (stake_row o ∷ [])) where
+      past_stake : first_met (price_rows o) ≡ first_met (feature_stake_row o ∷ charge_row o ∷ [])
+      unfolding every
+      past_stake = past_feature ∙ stage_ok (stake_row o ∷ []) (feature_stake_row o ∷ charge_row o ∷ []) refl stake
+
+      pub refused_by_feature_stake : (e : Refusal) → refusal_number e ≡ first_met (feature_stake_row o ∷ []) → refusal_number e ≡ first_met (price_rows o)
+      unfolding every
+      refused_by_feature_stake e first = sym (past_stake ∙ stage_err (feature_stake_row o ∷ []) (charge_row o ∷ []) refl e first)
+
+      pub decided_by_charge :
+          (code : ℕ)
+          → 0 ≡ first_met (feature_stake_row o ∷ [])
+          → code ≡ first_met (charge_row o ∷ [])
+          → code ≡ first_met (price_rows o)
+      unfolding every
+      decided_by_charge code feature_stake first =
+          first ∙ sym (past_stake ∙ stage_ok (feature_stake_row o ∷ []) (charge_row o ∷ []) refl feature_stake)
+
+  pub refused_by_marks : (e : Refusal) → refusal_number e ≡ first_met (mark_rows o) → refusal_number e ≡ operand_code o
+  unfolding operand_code operand_rows every
+  refused_by_marks e first = sym (stage_err (mark_rows o) (way_rows o ++ price_rows o) refl e first)
+
+  module _ (marks : 0 ≡ first_met (mark_rows o)) where
+    past_marks : operand_code o ≡ first_met (way_rows o ++ price_rows o)
+    unfolding operand_code operand_rows every
+    past_marks = stage_ok (mark_rows o) (way_rows o ++ price_rows o) refl marks
+
+    pub refused_by_ways : (e : Refusal) → refusal_number e ≡ first_met (way_rows o) → refusal_number e ≡ operand_code o
+    unfolding every
+    refused_by_ways e first = sym (past_marks ∙ stage_err (way_rows o) (price_rows o) refl e first)
+
+    pub decided_by_price : (code : ℕ) → 0 ≡ first_met (way_rows o) → code ≡ first_met (price_rows o) → code ≡ operand_code o
+    unfolding every
+    decided_by_price code ways first = first ∙ sym (past_marks ∙ stage_ok (way_rows o) (price_rows o) refl ways)

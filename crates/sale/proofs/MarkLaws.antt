@@ -1,14 +1,15 @@
 -- How the groups' sizes change when a mark is appended, and their bounds: one group's size grows by one, or none does. The sizes in one word.
-use mathlib.Core.Path.{◌≡◌, refl, sym, ap, ◌∙◌}
+use mathlib.Core.Path.{◌≡◌, refl, sym, ◌∙◌}
 use mathlib.Core.List.{List, [], ◌∷◌, ◌++◌}
-use Prim.Native.Nat.{ℕ, zero, suc, ◌+◌, ◌*◌, ◌^◌, ◌≤◌, ◌<◌}
+use Prim.Native.Nat.{ℕ, zero, suc, ◌+◌, ◌^◌, ◌≤◌, ◌<◌}
 use native.Mathlib.Decide.{dec_lt, ℕ_discrete}
 use native.Mathlib.Nat.{pow-suc, pow-le-pow_right, lt_of_lt_of_le}
 use native.Mathlib.Omega.{arith}
 use lib.Dec.{eqb}
-use lib.ListN.{length, get_or, set, drop, length-append, length-set, get_or-eq_default, replicate}
-use lib.Seq.{ext_get_or, get_or-set_same, get_or-set_other, drop-cons}
+use lib.ListN.{length, get_or, set, length-append, length-set, get_or-eq_default, replicate}
+use lib.Seq.{ext_get_or, get_or-set_same, get_or-set_other}
 use borrow.Author.Tests.{eq-eqb, ne_eqb}
+use Rattle.std.specs.Int.{w64, from_le_bytes}
 use Rattle.sale.specs.Lists.{keep}
 use Rattle.sale.specs.Ways.{size_of, by_group, size_word}
 use Rattle.sale.proofs.KeepLaws.{keep_append, length_keep_le}
@@ -108,10 +109,16 @@ word_below (x ∷ xs) small = rw (pow-suc 256 (length xs)) (omega (arith, small 
 pub word_fits : (xs : List ℕ) → ((i : ℕ) → get_or xs i 0 < 256) → length xs ≤ 8 → size_word xs < 2 ^ 64
 word_fits xs small few = lt_of_lt_of_le (word_below xs small) (pow-le-pow_right (omega arith) {j = 8} few)
 
--- as the code makes it, from the last size to the first
-module _ (xs : List ℕ) {n : ℕ} (inside : n < length xs) where
-  pub word_more : size_word (drop (suc n) xs) * 256 + get_or xs n 0 ≡ size_word (drop n xs)
-  unfolding size_word
-  word_more = ap size_word (sym (drop-cons xs n 0 inside))
-
--- ---- the table of groups
+-- std's number of eight bytes, the lowest first
+pub word_of_eight : (sizes : List ℕ) → length sizes ≡ 8 → from_le_bytes w64 sizes ≡ size_word sizes
+unfolding size_word
+word_of_eight (a ∷ b ∷ c ∷ d ∷ e ∷ f ∷ g ∷ h ∷ []) long = omega arith
+word_of_eight [] long = absurd (omega arith)
+word_of_eight (a ∷ []) long = absurd (omega arith)
+word_of_eight (a ∷ b ∷ []) long = absurd (omega arith)
+word_of_eight (a ∷ b ∷ c ∷ []) long = absurd (omega arith)
+word_of_eight (a ∷ b ∷ c ∷ d ∷ []) long = absurd (omega arith)
+word_of_eight (a ∷ b ∷ c ∷ d ∷ e ∷ []) long = absurd (omega arith)
+word_of_eight (a ∷ b ∷ c ∷ d ∷ e ∷ f ∷ []) long = absurd (omega arith)
+word_of_eight (a ∷ b ∷ c ∷ d ∷ e ∷ f ∷ g ∷ []) long = absurd (omega arith)
+word_of_eight (a ∷ b ∷ c ∷ d ∷ e ∷ f ∷ g ∷ h ∷ i ∷ rest) long = absurd (omega arith)

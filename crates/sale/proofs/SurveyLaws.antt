@@ -7,13 +7,12 @@ use mathlib.Core.List.{List, [], ◌∷◌, ◌++◌, map}
 use native.Mathlib.Nat.{add-zero, zero-add}
 use native.Mathlib.Omega.{arith}
 use lib.Dec.{leb}
-use lib.ListN.{length, set, length-set, length-append, length-map}
-use lib.Seq.{get_or-set_same, get_or-set_other}
+use lib.ListN.{length, length-append, length-map}
 use borrow.Author.Tests.{le-leb, lt-leb, leb-true, leb-false}
 use Rattle.sale.specs.Lists.{every}
 use Rattle.sale.specs.Kinds.{within}
 use Rattle.sale.specs.Ways.{ways, mask_sum, way_sizes}
-use Rattle.sale.specs.Passes.{ways_from, sizes_from, noted, survey_from, survey_of, survey_in, Unfilled}
+use Rattle.sale.specs.Passes.{ways_from, sizes_from, noted, survey_from, survey_of, Unfilled}
 use Rattle.sale.specs.declared.survey.Survey.{Survey}
 use Rattle.sale.proofs.WayLaws.{ways_few}
 use Rattle.sale.proofs.WalkLaws.{ways_from_ways}
@@ -34,13 +33,13 @@ unfolding survey_from
 survey_count s [] = sym (add-zero s.count)
 survey_count s (x ∷ xs) = omega (arith, survey_count (noted s x) xs)
 
-module _ (xs ys : List ℕ) {table : List ℕ} (u : Unfilled (xs ++ ys) table) where
-  pub unfilled_first : Unfilled xs table
+module _ (xs ys : List ℕ) {s : Survey} (u : Unfilled (xs ++ ys) s) where
+  pub unfilled_first : Unfilled xs s
   unfilled_first = record { room = omega (arith, u.room, length-append xs ys) }
 
-  pub unfilled_second : {middle : List ℕ} → survey_in middle ≡ survey_from (survey_in table) xs → Unfilled ys middle
+  pub unfilled_second : {middle : Survey} → middle ≡ survey_from s xs → Unfilled ys middle
   unfilled_second e =
-      record { room = omega (arith, u.room, length-append xs ys, ap (λ s. s.count) e, survey_count (survey_in table) xs) }
+      record { room = omega (arith, u.room, length-append xs ys, ap (λ s. s.count) e, survey_count s xs) }
 
 -- ---- over all groups
 
@@ -54,8 +53,8 @@ surveyed_count g types sizes =
     let xs = way_sizes g types sizes in
     survey_count (record { count = 0; least = 255; most = 0 }) xs ∙ zero-add (length xs) ∙ length-map (ways g types) (λ m. mask_sum m sizes)
 
--- the table that the walk starts with has room for them
-pub start_unfilled : {g : ℕ} → g ≤ 8 → (types : ℕ) (sizes : List ℕ) → Unfilled (sizes_from types sizes g 0) (0 ∷ 255 ∷ 0 ∷ [])
+-- the survey that the walk starts with has room for them
+pub start_unfilled : {g : ℕ} → g ≤ 8 → (types : ℕ) (sizes : List ℕ) → Unfilled (sizes_from types sizes g 0) (record { count = 0; least = 255; most = 0 })
 start_unfilled {g} few types sizes =
     record {
       room =
@@ -66,23 +65,6 @@ start_unfilled {g} few types sizes =
             ways_few types few,
           );
     }
-
--- ---- the stores
-
-module _ (table : List ℕ) (long : length table ≡ 3) (a b c : ℕ) where
-  pub stored : survey_in (set (set (set table 0 a) 1 b) 2 c) ≡ record { count = a; least = b; most = c }
-  stored =
-      λ i.
-      record {
-        count =
-            (get_or-set_other (set (set table 0 a) 1 b) 2 0 c 0 (λ e. omega arith)
-            ∙ get_or-set_other (set table 0 a) 1 0 b 0 (λ e. omega arith)
-            ∙ get_or-set_same table 0 a 0 (omega arith)) i;
-        least =
-            (get_or-set_other (set (set table 0 a) 1 b) 2 1 c 0 (λ e. omega arith)
-            ∙ get_or-set_same (set table 0 a) 1 b 0 (simp length-set (omega arith))) i;
-        most = get_or-set_same (set (set table 0 a) 1 b) 2 c 0 (simp length-set (omega arith)) i;
-      }
 
 -- ---- tests of every size
 

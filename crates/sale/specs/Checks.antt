@@ -2,14 +2,12 @@
 -- marks, a mark over g, or an empty group; 11 types 0 or naming more than g groups; 12 a way's size against its kind; 13 Special One, one
 -- way; 14 stake; 15 charge". And of Lucky Last: "31 when kind is not 0 or there is more than one way, after 13; 32 when the feature stake is 0 or no
 -- multiple of 100, after 14."
-use Rattle.std.specs.Prelude.{ℕ, ◌%◌, ◌^◌, Bool, true, false, cond, not, ◌&&◌, ◌||◌, List, [], ◌∷◌, ◌++◌, ltb, leb, eqb, length, take}
+use Rattle.std.specs.Prelude.{ℕ, ◌%◌, ◌^◌, Bool, true, false, cond, not, ◌&&◌, ◌||◌, List, [], ◌∷◌, ◌++◌, ltb, leb, eqb, length, take, Option, None, Some}
 use Rattle.sale.specs.Lists.{every}
 use Rattle.sale.specs.Kinds.{kind_of, is_special_one, sizes_fit, jackpot_by}
 use Rattle.sale.specs.Ways.{sizes, size_word, ways, way_sizes}
 use Rattle.sale.specs.Price.{charge_limit, paid_games, stake_fits, game_price, charge}
 use Rattle.sale.specs.declared.terms.Sale.{Sale}
-use Rattle.sale.specs.declared.terms.Feature.{Feature}
-use Rattle.sale.specs.declared.terms.Feature.TheVariants.{Absent, LuckyLast}
 use Rattle.sale.specs.declared.check.Quote.{Quote}
 
 -- the operands of a sale, as the caller gives them: Sell's, and with Lucky Last its feature stake
@@ -19,7 +17,7 @@ pub record Operands : Type 0 where
   pub stake : ℕ
   pub groups : ℕ
   pub types : ℕ
-  pub feature : Feature
+  pub feature : Option ℕ
   pub marks : List ℕ
 
 -- a sale with the marks that stand beside it
@@ -28,13 +26,13 @@ operands_of s marks =
     record { kind = s.kind; games = s.games; stake = s.stake; groups = s.groups; types = s.types; feature = s.feature; marks = marks }
 
 -- whether a sale enters the feature, and its stake for a game: one without it has none
-abbrev pub has_feature : Feature → Bool
-has_feature Absent = false
-has_feature (LuckyLast stake) = true
+abbrev pub has_feature : Option ℕ → Bool
+has_feature None = false
+has_feature (Some stake) = true
 
-abbrev pub feature_stake : Feature → ℕ
-feature_stake Absent = 0
-feature_stake (LuckyLast stake) = stake
+abbrev pub feature_stake : Option ℕ → ℕ
+feature_stake None = 0
+feature_stake (Some stake) = stake
 
 -- the number of the first row that is met, and 0 where none is
 unfoldable pub first_met : List (Bool × ℕ) → ℕ
@@ -102,20 +100,13 @@ jackpot_of o =
     (record { kind = kind_of o.kind; games = o.games; stake = o.stake; groups = o.groups; types = o.types })
     (sizes o.marks)
 
--- what a sale is told: the charge, and what the ticket keeps of its operands; or the refusal
+-- what a sale that passes is told: the charge, and what the ticket keeps of its operands
 abbrev pub accepted_quote : Operands → Quote
 accepted_quote o =
     record {
-      code = 0;
       ways = way_count o;
       paid = paid_games o.games;
       charge = charge_of o;
       jackpot = jackpot_of o;
       sizes = size_word (sizes o.marks);
     }
-
-abbrev pub refused_quote : ℕ → Quote
-refused_quote code = record { code = code; ways = 0; paid = 0; charge = 0; jackpot = 0; sizes = 0 }
-
-unfoldable pub quote_of : Operands → Quote
-quote_of o = cond (eqb (operand_code o) 0) (accepted_quote o) (refused_quote (operand_code o))

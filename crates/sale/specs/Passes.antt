@@ -1,6 +1,6 @@
 -- The walk over a ticket's ways as the code takes it, what a sale sees in it, and what the stages of a sale's checks tell. Only contracts speak of
 -- these; the laws in proofs/WalkLaws and proofs/SurveyLaws join the walk to the ways themselves.
-use Rattle.std.specs.Prelude.{ℕ, zero, suc, ◌+◌, ◌*◌, ◌/◌, ◌%◌, ◌^◌, ◌≤◌, ◌<◌, min, max, ◌≡◌, Bool, cond, not, ◌&&◌, List, [], ◌∷◌, ◌++◌, map, leb, eqb, length, get_or}
+use Rattle.std.specs.Prelude.{ℕ, zero, suc, ◌+◌, ◌*◌, ◌/◌, ◌%◌, ◌^◌, ◌≤◌, ◌<◌, min, max, ◌≡◌, Bool, cond, not, ◌&&◌, List, [], ◌∷◌, ◌++◌, map, leb, eqb, length, Result, IfOk}
 use Rattle.std.specs.Int.Count.{ones}
 use Rattle.sale.specs.Kinds.{kind_of}
 use Rattle.sale.specs.Ways.{sizes, nominated, mask_sum, way_sizes}
@@ -9,9 +9,9 @@ use Rattle.sale.specs.Checks.{Operands, first_met, charge_of, mark_rows, way_row
 use Rattle.sale.specs.Bounds.{Grouped, Bytes}
 use Rattle.sale.specs.declared.terms.Kind.{Kind}
 use Rattle.sale.specs.declared.survey.Survey.{Survey}
-use Rattle.sale.specs.declared.check.MarksCheck.{MarksCheck}
-use Rattle.sale.specs.declared.check.WaysCheck.{WaysCheck}
-use Rattle.sale.specs.declared.check.PriceCheck.{PriceCheck}
+use Rattle.refusals.specs.Refusal.{code_in}
+use Rattle.refusals.specs.declared.refusal.Refusal.{Refusal}
+use Rattle.sale.specs.declared.check.Price.{Price}
 
 -- The ways that begin with the groups in a mask, where so many groups are left to take or to leave. Leaving comes first, so that the masks
 -- rise.
@@ -46,13 +46,9 @@ survey_from s (size ∷ sizes) = survey_from (noted s size) sizes
 abbrev pub survey_of : List ℕ → Survey
 survey_of sizes = survey_from (record { count = 0; least = 255; most = 0 }) sizes
 
--- the same in a table with a place for each
-abbrev pub survey_in : List ℕ → Survey
-survey_in table = record { count = get_or table 0 0; least = get_or table 1 0; most = get_or table 2 0 }
-
--- a table with room for the count of those ways
-pub record Unfilled (sizes table : List ℕ) : Type 0 where
-  pub room : get_or table 0 0 + length sizes < 2 ^ 32
+-- a survey with room for the count of those ways
+pub record Unfilled (sizes : List ℕ) (s : Survey) : Type 0 where
+  pub room : s.count + length sizes < 2 ^ 32
 
 -- ---- a sale's checks, stage by stage
 
@@ -62,28 +58,28 @@ pub record MarksPassed (o : Operands) (counts : List ℕ) : Type 0 where
   pub groups : Grouped o.groups
   pub bytes : Bytes counts
 
--- 0 or the first refusal of the marks' rows
-pub record MarksChecked (o : Operands) (r : MarksCheck) : Type 0 where
-  pub code : r.code ≡ first_met (mark_rows o)
-  pub passed : r.code ≡ 0 → MarksPassed o r.sizes
+-- the first refusal of the marks' rows, or the sizes of the groups
+pub record MarksChecked (o : Operands) (r : Result (List ℕ) Refusal) : Type 0 where
+  pub code : code_in r ≡ first_met (mark_rows o)
+  pub passed : IfOk r (MarksPassed o)
 
 -- the look at the operands' ways, with their kind
 pub record LookedAt (o : Operands) (k : Kind) (seen : Survey) : Type 0 where
   pub kind : k ≡ kind_of o.kind
   pub survey : seen ≡ survey_of (way_sizes o.groups o.types (sizes o.marks))
 
--- 0 or the first refusal of the ways' rows, for operands of the kind
-pub record WaysChecked (o : Operands) (k : Kind) (r : WaysCheck) : Type 0 where
-  pub code : r.code ≡ first_met (way_rows o)
-  pub passed : r.code ≡ 0 → LookedAt o k r.survey
+-- the first refusal of the ways' rows, for operands of the kind, or what was seen of the ways
+pub record WaysChecked (o : Operands) (k : Kind) (r : Result Survey Refusal) : Type 0 where
+  pub code : code_in r ≡ first_met (way_rows o)
+  pub passed : IfOk r (LookedAt o k)
 
 -- what a price that passes tells
-pub record Priced (o : Operands) (r : PriceCheck) : Type 0 where
-  pub paid : r.paid ≡ paid_games o.games
-  pub charge : r.charge ≡ charge_of o
+pub record Priced (o : Operands) (price : Price) : Type 0 where
+  pub paid : price.paid ≡ paid_games o.games
+  pub charge : price.charge ≡ charge_of o
   pub within : charge_of o ≤ charge_limit
 
--- 0 or the first refusal of the feature's and the price's rows
-pub record PriceChecked (o : Operands) (r : PriceCheck) : Type 0 where
-  pub code : r.code ≡ first_met (price_rows o)
-  pub passed : r.code ≡ 0 → Priced o r
+-- the first refusal of the feature's and the price's rows, or the price
+pub record PriceChecked (o : Operands) (r : Result Price Refusal) : Type 0 where
+  pub code : code_in r ≡ first_met (price_rows o)
+  pub passed : IfOk r (Priced o)

@@ -1,19 +1,16 @@
 // The groups of a ticket's marks: how many numbers each has.
-ghost use Rattle.std.specs.Prelude.{◌≡◌, List, [], ◌∷◌, ◌++◌, ℕ, ◌*◌};
+ghost use Rattle.std.specs.Prelude.{◌≡◌, List, [], ◌∷◌, ◌++◌, ℕ};
 ghost use Rattle.sale.specs.Ways.{sizes, size_of, by_group, size_word};
 ghost use Rattle.sale.specs.Bounds.{Marked, Countable};
 
-// The groups' counts with one mark more. A mark that names no group counts for none.
-fn with_mark(counts: [u8; 8], mark: u8) -> [u8; 8]
-    requires { Countable counts }
-    ensures { (xs : List ℕ) → counts ≡ by_group (size_of xs) → result ≡ by_group (size_of (xs ++ (mark ∷ []))) }
+// Counts one mark more. A mark that names no group counts for none.
+fn count_mark(counts: &mut [u8; 8], mark: u8)
+    requires { Countable counts.old }
+    ensures { (xs : List ℕ) → counts.old ≡ by_group (size_of xs) → counts.new ≡ by_group (size_of (xs ++ (mark ∷ []))) }
 {
-    let mut next = counts;
-    if 1 <= mark && mark <= 8 {
-        let at = (mark - 1) as usize;
-        next[at] = next[at] + 1;
+    if let 1..=8 = mark {
+        counts[mark as usize - 1] += 1;
     }
-    next
 }
 
 // How many numbers each group has.
@@ -22,12 +19,8 @@ pub fn group_sizes(marks: &[u8]) -> [u8; 8]
     ensures { result ≡ sizes marks.now }
 {
     let mut counts = [0u8; 8];
-    let mut i = 0;
-    while i < marks.len() {
-        let mark = marks[i];
-        let next = with_mark(counts, mark);
-        counts = next;
-        i += 1;
+    for mark in marks {
+        count_mark(&mut counts, *mark);
     }
     counts
 }
@@ -36,11 +29,5 @@ pub fn group_sizes(marks: &[u8]) -> [u8; 8]
 pub fn size_word(sizes: [u8; 8]) -> u64
     ensures { result ≡ size_word sizes }
 {
-    let mut word: u64 = 0;
-    let mut left: usize = 8;
-    while 0 < left {
-        left -= 1;
-        word = word * 256 + sizes[left] as u64;
-    }
-    word
+    u64::from_le_bytes(sizes)
 }

@@ -9,6 +9,7 @@ use crate::terms::Kind;
 pub const CHARGE_LIMIT: u64 = 999_900;
 
 // The games that are paid for: of 50 and more the last one is free, of 100 the last two.
+#[tactic(auto, using(std::proofs::lemmas::Bool::Decides::nat_tests), unfolding(crate::specs::Price::paid_games))]
 pub fn paid_games(games: u8) -> u8
     ensures { result ≡ paid_games games }
 {
@@ -22,6 +23,7 @@ pub fn paid_games(games: u8) -> u8
 }
 
 // The least stake for a way and a game.
+#[tactic(auto, using(std::proofs::lemmas::Bool::Decides::nat_tests), unfolding(crate::specs::Price::minimum_stake))]
 pub fn minimum_stake(kind: Kind, count: u32) -> u32
     ensures { result ≡ minimum_stake kind count }
 {
@@ -37,6 +39,7 @@ pub fn minimum_stake(kind: Kind, count: u32) -> u32
 }
 
 // Whether a stake is at least the minimum and in the steps that its size allows.
+#[tactic(auto, using(std::proofs::lemmas::Bool::Decides::nat_tests), unfolding(crate::specs::Price::stake_fits, crate::specs::Price::minimum_stake))]
 pub fn stake_fits(kind: Kind, count: u32, stake: u32) -> bool
     ensures { result ≡ stake_fits kind count stake }
 {
@@ -51,6 +54,7 @@ pub fn stake_fits(kind: Kind, count: u32, stake: u32) -> bool
 }
 
 // The price of so many paid games: the stakes of the ways and the feature stake, for each of them.
+#[tactic(auto, unfolding(crate::specs::Price::game_price, crate::specs::Price::charge))]
 pub fn charge_of(stake: u32, count: u32, feature: u32, paid: u8) -> u64
     requires { Counted count }
     ensures { result ≡ charge (game_price stake count feature) paid }

@@ -1,17 +1,15 @@
-// The one look that a sale takes at its ways: how many they are, and the smallest and the largest number that one selects. The walk adds them in
-// one table that all its calls are lent, so that the second call of each is a jump.
-ghost use Rattle.std.specs.Prelude.{◌≡◌, true, cond, List, [], ◌∷◌, ℕ, length};
+// The one look that a sale takes at its ways: how many they are, and the smallest and the largest number that one selects. All calls of the walk are lent
+// one survey, which they note the ways in, so that the second call of each is a jump.
+ghost use Rattle.std.specs.Prelude.{◌≡◌, cond, List, [], ◌∷◌, ℕ, ◌+◌, ◌<◌, ◌^◌};
 ghost use Rattle.std.specs.Int.Count.{ones};
-ghost use Rattle.sale.specs.Kinds.{within, sizes_fit};
+ghost use Rattle.sale.specs.Kinds.{within, sizes_fit, jackpot_by};
 ghost use Rattle.sale.specs.Ways.{nominated, way_sizes};
-ghost use Rattle.sale.specs.Kinds.{jackpot_by};
 ghost use Rattle.sale.specs.Bounds.{Grouped, Place, AddedUp, Bytes};
-ghost use Rattle.sale.specs.Passes.{sizes_from, noted, survey_from, survey_of, survey_in, Unfilled};
+ghost use Rattle.sale.specs.Passes.{sizes_from, noted, survey_from, survey_of, Unfilled};
 ghost use Rattle.sale.specs.declared.terms.Terms.{Terms};
 
 use crate::terms::{Kind, Schedule};
 use crate::ways;
-use numbers::order::{max_u32, min_u32};
 
 // Of a ticket's ways: how many, and the smallest and the largest number that one selects. With no way, the smallest is 255 and the largest 0.
 #[derive(Clone, Copy)]
@@ -21,46 +19,23 @@ pub struct Survey {
     pub most: u32,
 }
 
-// A table is as long as its type says: learnt by lending it as a slice.
-fn known_places(table: &[u32; 3])
-    ensures { length table.now ≡ 3 }
-{
-    lent_places(table);
-}
-
-fn lent_places(_: &[u32]) {}
-
-// Takes in a way, which selects `size` numbers.
-fn note_way(size: u32, table: &mut [u32; 3])
-    requires { Unfilled (size ∷ []) table.old }
-    ensures { survey_in table.new ≡ noted (survey_in table.old) size }
-{
-    known_places(table);
-    let least = table[1];
-    let most = table[2];
-    table[0] += 1;
-    table[1] = min_u32(least, size);
-    table[2] = max_u32(most, size);
-}
-
 // Takes in a mask of groups, which is a way or none. It selects `size` numbers.
-fn note_mask(mask: u32, size: u32, types: u8, table: &mut [u32; 3])
-    requires { Place 0 mask × Unfilled (cond (nominated types (ones mask)) (size ∷ []) []) table.old }
-    ensures { survey_in table.new ≡ survey_from (survey_in table.old) (cond (nominated types (ones mask)) (size ∷ []) []) }
+fn note_mask(mask: u32, size: u32, types: u8, survey: &mut Survey)
+    requires { Place 0 mask × Unfilled (cond (nominated types (ones mask)) (size ∷ []) []) survey.old }
+    ensures { survey.new ≡ survey_from survey.old (cond (nominated types (ones mask)) (size ∷ []) []) }
 {
-    if !ways::nominates(types, u32::count_ones(mask)) {
-        return;
+    if ways::nominates(types, mask.count_ones()) {
+        survey.note(size);
     }
-    note_way(size, table);
 }
 
 // Takes in the ways that begin with the groups in the mask, which select `size` numbers, where `left` groups are left to leave or to take.
-fn survey_from(left: usize, mask: u32, size: u32, types: u8, sizes: &[u8; 8], table: &mut [u32; 3])
-    requires { Bytes sizes.now × Place left mask × AddedUp left mask size sizes.now × Unfilled (sizes_from types sizes.now left mask) table.old }
-    ensures { survey_in table.new ≡ survey_from (survey_in table.old) (sizes_from types sizes.now left mask) }
+fn survey_from(left: usize, mask: u32, size: u32, types: u8, sizes: &[u8; 8], survey: &mut Survey)
+    requires { Bytes sizes.now × Place left mask × AddedUp left mask size sizes.now × Unfilled (sizes_from types sizes.now left mask) survey.old }
+    ensures { survey.new ≡ survey_from survey.old (sizes_from types sizes.now left mask) }
 {
     if left == 0 {
-        note_mask(mask, size, types, table);
+        note_mask(mask, size, types, survey);
         return;
     }
     if ways::ends_here(types, mask, left) {
@@ -68,8 +43,8 @@ fn survey_from(left: usize, mask: u32, size: u32, types: u8, sizes: &[u8; 8], ta
     }
     let after = left - 1;
     let more = size + sizes[after] as u32;
-    survey_from(after, mask * 2, size, types, sizes, table);
-    survey_from(after, mask * 2 + 1, more, types, sizes, table);
+    survey_from(after, mask * 2, size, types, sizes, survey);
+    survey_from(after, mask * 2 + 1, more, types, sizes, survey);
 }
 
 // The ways of a ticket, from the sizes of its groups.
@@ -77,24 +52,31 @@ pub(crate) fn survey_ways(groups: u8, types: u8, sizes: &[u8; 8]) -> Survey
     requires { Grouped groups × Bytes sizes.now }
     ensures { result ≡ survey_of (way_sizes groups types sizes.now) }
 {
-    let mut table = [0u32, 255, 0];
-    survey_from(groups as usize, 0, 0, types, sizes, &mut table);
-    Survey {
-        count: table[0],
-        least: table[1],
-        most: table[2],
-    }
+    let mut survey = Survey {
+        count: 0,
+        least: 255,
+        most: 0,
+    };
+    survey_from(groups as usize, 0, 0, types, sizes, &mut survey);
+    survey
 }
 
 impl Survey {
+    // Takes in a way, which selects `size` numbers.
+    fn note(&mut self, size: u32)
+        requires { self.old.count + 1 < 2 ^ 32 }
+        ensures { self.new ≡ noted self.old size }
+    {
+        self.count += 1;
+        self.least = self.least.min(size);
+        self.most = self.most.max(size);
+    }
+
     // Whether every way selects from lo to hi numbers.
     pub(crate) fn all_between(self, lo: u8, hi: u8) -> bool
         ensures { (sizes : List ℕ) → self ≡ survey_of sizes → result ≡ within lo hi sizes }
     {
-        if self.least < lo as u32 {
-            return false;
-        }
-        self.most <= hi as u32
+        lo as u32 <= self.least && self.most <= hi as u32
     }
 
     // Whether the ways' sizes suit the kind.
@@ -102,17 +84,9 @@ impl Survey {
         ensures { (sizes : List ℕ) → self ≡ survey_of sizes → result ≡ sizes_fit kind sizes }
     {
         match kind {
-            Kind::Standard => self.all_between(1, 15),
-            Kind::Jackpot => {
-                if self.all_between(6, 6) {
-                    return true;
-                }
-                self.all_between(8, 8)
-            }
-            Kind::Special(s) => match s {
-                Schedule::One => self.all_between(1, 15),
-                Schedule::Two => self.all_between(3, 6),
-            },
+            Kind::Standard | Kind::Special(Schedule::One) => self.all_between(1, 15),
+            Kind::Jackpot => self.all_between(6, 6) || self.all_between(8, 8),
+            Kind::Special(Schedule::Two) => self.all_between(3, 6),
         }
     }
 

@@ -1,31 +1,24 @@
-// Kinds, schedules, features, the operands of a sale and the terms of a ticket.
+// Kinds, schedules, the operands of a sale and the terms of a ticket.
 ghost use Rattle.std.specs.Prelude.{◌≡◌};
 ghost use Rattle.sale.specs.Kinds.{kind_of, kind_number, is_jackpot, is_special_one};
-ghost use Rattle.sale.specs.Checks.{has_feature, feature_stake};
 
 // The schedule that a special entry plays for: rule 18.2 or rule 18.3.
-#[derive(Clone, Copy)]
+#[derive(Clone, Copy, PartialEq, Eq, Debug)]
 pub enum Schedule {
     One,
     Two,
 }
 
 // Document 01's kinds: 0 standard, 1 jackpot, 2 Special One, 3 Special Two.
-#[derive(Clone, Copy)]
+#[derive(Clone, Copy, PartialEq, Eq, Debug)]
 pub enum Kind {
     Standard,
     Jackpot,
     Special(Schedule),
 }
 
-// What a sale enters beside its ways: nothing, or Lucky Last (rule 21.1 of the Tasmanian rules) with its stake for a game.
-#[derive(Clone, Copy)]
-pub enum Feature {
-    Absent,
-    LuckyLast(u32),
-}
-
-// A sale's operands as the caller gives them, but for the marks, which stand beside them.
+// A sale's operands as the caller gives them, but for the marks, which stand beside them. `feature` is what the sale enters beside its ways: nothing, or the
+// stake of Lucky Last for a game (rule 21.1 of the Tasmanian rules).
 #[derive(Clone, Copy)]
 pub struct Sale {
     pub kind: u8,
@@ -33,7 +26,7 @@ pub struct Sale {
     pub stake: u32,
     pub groups: u8,
     pub types: u8,
-    pub feature: Feature,
+    pub feature: Option<u32>,
 }
 
 // What a ticket plays for. Its 80 marks stand beside it.
@@ -46,11 +39,11 @@ pub struct Terms {
     pub types: u8,
 }
 
-impl Kind {
-    // The kind of a number. Numbers over 3 are refused before they come here, and are the last kind.
-    pub fn of(number: u8) -> Kind
-        ensures { result ≡ kind_of number }
-    {
+// The kind of a number. Numbers over 3 are refused before they come here, and are the last kind.
+impl From<u8> for Kind {
+    ghost from_gives = { λ number kind. kind ≡ kind_of number };
+
+    fn from(number: u8) -> Kind {
         match number {
             0 => Kind::Standard,
             1 => Kind::Jackpot,
@@ -58,64 +51,33 @@ impl Kind {
             _ => Kind::Special(Schedule::Two),
         }
     }
+}
 
-    pub fn number(self) -> u8
-        ensures { result ≡ kind_number self }
-    {
-        match self {
+impl From<Kind> for u8 {
+    ghost from_gives = { λ kind number. number ≡ kind_number kind };
+
+    fn from(kind: Kind) -> u8 {
+        match kind {
             Kind::Standard => 0,
             Kind::Jackpot => 1,
-            Kind::Special(s) => match s {
-                Schedule::One => 2,
-                Schedule::Two => 3,
-            },
+            Kind::Special(Schedule::One) => 2,
+            Kind::Special(Schedule::Two) => 3,
         }
     }
+}
 
+impl Kind {
     // Whether a ticket of this kind plays for a jackpot.
     pub fn is_jackpot(self) -> bool
         ensures { result ≡ is_jackpot self }
     {
-        match self {
-            Kind::Standard => false,
-            Kind::Jackpot => true,
-            Kind::Special(_) => false,
-        }
+        matches!(self, Kind::Jackpot)
     }
 
     // Whether a ticket of this kind plays for rule 18.2, which asks for two ways at the least.
     pub fn is_special_one(self) -> bool
         ensures { result ≡ is_special_one self }
     {
-        match self {
-            Kind::Standard => false,
-            Kind::Jackpot => false,
-            Kind::Special(s) => match s {
-                Schedule::One => true,
-                Schedule::Two => false,
-            },
-        }
-    }
-}
-
-impl Feature {
-    // Whether the sale enters a feature.
-    pub fn is_entered(self) -> bool
-        ensures { result ≡ has_feature self }
-    {
-        match self {
-            Feature::Absent => false,
-            Feature::LuckyLast(_) => true,
-        }
-    }
-
-    // The feature stake for a game, 0 where no feature is entered.
-    pub fn stake(self) -> u32
-        ensures { result ≡ feature_stake self }
-    {
-        match self {
-            Feature::Absent => 0,
-            Feature::LuckyLast(stake) => stake,
-        }
+        matches!(self, Kind::Special(Schedule::One))
     }
 }

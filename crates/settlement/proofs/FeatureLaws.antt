@@ -5,24 +5,26 @@ use mathlib.Core.Path.{◌≡◌, refl, sym, ap, ◌∙◌}
 use mathlib.Core.Bool.{Bool, true, false, cond}
 use mathlib.Core.List.{List, [], ◌∷◌, map, zip_with}
 use native.Mathlib.Omega.{arith}
-use lib.ListN.{length, get_or, take, length-map}
-use Rattle.sale.specs.Lists.{sum}
+use lib.ListN.{length, get_or, length-map}
+use Rattle.sale.specs.Lists.{sum, keep}
 use Rattle.sale.specs.Price.{charge_limit}
 use Rattle.sale.specs.Checks.{feature_stake}
 use Rattle.sale.specs.Bounds.{Playable}
 use Rattle.prizes.specs.LuckyLast.{lucky_last_prize}
-use Rattle.prizes.specs.Settle.{Entry, majors_of, prizes_of, all_prizes_of, settle}
+use Rattle.prizes.specs.Settle.{Entry, majors_of, prizes_of, all_prizes_of}
 use Rattle.prizes.specs.Bounds.{KeptSizes, feature_limit}
 use Rattle.prizes.specs.declared.draw.Draw.{Draw}
 use Rattle.prizes.proofs.LuckyLastLaws.{nothing_staked, feature_within}
 use Rattle.house.specs.Tickets.{Ticket, runs_in, entry_of}
-use Rattle.house.specs.Model.{Model}
-use Rattle.house.specs.Commands.{running_in, settled_by}
 use Rattle.house.specs.View.{row_at, marks_at, ticket_from, ticket_in}
 use Rattle.house.specs.declared.rows.Row.{Row}
 use Rattle.house.proofs.Bounded.{feature_stake_within}
 use Rattle.house.proofs.RowLaws.{row_feature}
-use Rattle.settlement.specs.Settling.{spread, entries_of, payouts_in, feature_at, prizes_in, PaidOut, Prized, Settleable}
+use Rattle.settlement.specs.Settling.{spread, entries_of, payouts_in, feature_at, prizes_in}
+use Rattle.settlement.specs.Drawn.{drawn_tickets, PaidOut, Prized}
+use Rattle.settlement.specs.declared.drawn_game.DrawnGame.{DrawnGame}
+use Rattle.settlement.specs.declared.ways.TicketWays.{TicketWays}
+use Rattle.house.proofs.RowLists.{length_table}
 use Rattle.settlement.specs.Passing.{Sold}
 use Rattle.settlement.proofs.SpreadLaws.{spread_entries, spread_added}
 use Rattle.settlement.proofs.TablePlaces.{spread_within}
@@ -115,36 +117,37 @@ module _ (game : ℕ) (draw : Draw) (ts : List Ticket) where
       ∙ sym (spread_added game (payouts_in game draw ts) features_in ts alike)
       ∙ ap (λ (figures : List ℕ). spread game figures ts) all_prizes
 
-module _ (m : Model) (draw : Draw) where
-  payouts_within : sum (payouts_in m.game draw m.live) ≤ (settled_by draw m).prizes
-  unfolding payouts_in settle all_prizes_of
+module _ (g : DrawnGame) where
+  abbrev payouts : List ℕ
+  payouts = payouts_in g.game g.draw (drawn_tickets g)
+
+  payouts_within : sum payouts ≤ sum (prizes_in g.game g.draw (drawn_tickets g))
+  unfolding payouts_in prizes_in all_prizes_of
   payouts_within =
-      let es : List Entry = entries_of m.game m.live in
-      sum_maps (prizes_of (majors_of draw es) draw) (λ e. lucky_last_prize draw e.marks e.feature) es
+      let es : List Entry = entries_of g.game (drawn_tickets g) in
+      sum_maps (prizes_of (majors_of g.draw es) g.draw) (λ e. lucky_last_prize g.draw e.marks e.feature) es
 
-  payouts_count : length (payouts_in m.game draw m.live) ≡ length (running_in m)
+  payouts_count : length payouts ≡ length (keep (runs_in g.game) (drawn_tickets g))
   unfolding payouts_in
-  payouts_count = length-map (entries_of m.game m.live) _ ∙ length-map (running_in m) (entry_of m.game)
+  payouts_count = length-map (entries_of g.game (drawn_tickets g)) _ ∙ length-map (keep (runs_in g.game) (drawn_tickets g)) (entry_of g.game)
 
-  module _ {paid full : List ℕ} (out : PaidOut m draw paid full) where
+  module _ {ways : List TicketWays} {paid : List ℕ} (out : PaidOut g ways paid) where
     -- what a ticket's ways are paid leaves room for its feature prize
-    pub payouts_fit : Settleable m draw → (i : ℕ) → i < length m.live → get_or paid i 0 < 2 ^ 63
-    payouts_fit given i inside =
+    pub payouts_fit : sum (prizes_in g.game g.draw (drawn_tickets g)) < 2 ^ 62 → (i : ℕ) → i < g.live → get_or paid i 0 < 2 ^ 63
+    payouts_fit room i inside =
         omega (
           arith,
-          given.room,
           payouts_within,
-          spread_within m.game paid (payouts_in m.game draw m.live) m.live out.payouts payouts_count i inside,
+          length_table (ticket_in g.rows.now g.marks.now) g.live,
+          spread_within g.game paid payouts (drawn_tickets g) out.payouts payouts_count i (omega (arith, length_table (ticket_in g.rows.now g.marks.now) g.live)),
         )
 
-    pub prized : {paid' : List ℕ}
-        → take (length m.live) paid' ≡ zip_with ◌+◌ (take (length m.live) paid) (map (feature_at m.game draw) m.live)
-        → Prized m draw paid' full
+    pub prized : {paid' : List ℕ} → paid' ≡ zip_with ◌+◌ paid (map (feature_at g.game g.draw) (drawn_tickets g)) → Prized g ways paid'
     prized joined =
         record {
           prizes =
               joined
-              ∙ ap (λ (l : List ℕ). zip_with ◌+◌ l (map (feature_at m.game draw) m.live)) out.payouts
-              ∙ prizes_joined m.game draw m.live;
+              ∙ ap (λ (l : List ℕ). zip_with ◌+◌ l (map (feature_at g.game g.draw) (drawn_tickets g))) out.payouts
+              ∙ prizes_joined g.game g.draw (drawn_tickets g);
           matches = out.matches;
         }

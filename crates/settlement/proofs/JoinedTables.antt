@@ -1,9 +1,10 @@
--- Figures joined one by one to the first places of a table: the next place is as it was, one figure more is one store more, and in the end each place has its
+-- Figures joined one by one to the places of a table: the next place is as it was, one figure more is one store more, and in the end each place has its
 -- figure beside what it had.
 use Prim.Native.Nat.{ℕ, ◌+◌}
 use mathlib.Core.Path.{◌≡◌, refl, sym, ap, subst, ◌∙◌}
 use mathlib.Core.List.{List, [], ◌∷◌, ◌++◌, zip_with}
-use lib.ListN.{length, take, set, get_or}
+use native.Mathlib.Omega.{arith}
+use lib.ListN.{length, set, get_or}
 
 unfoldable pub joined_to : List ℕ → List ℕ → List ℕ
 joined_to [] xs = []
@@ -27,12 +28,11 @@ joined_more [] xs x = refl
 joined_more (p ∷ ps) [] x = ap (◌∷◌ (p + x)) (sym (joined_none ps))
 joined_more (p ∷ ps) (y ∷ xs) x = ap (◌∷◌ (p + y)) (joined_more ps xs x)
 
-joined_all : (ps xs : List ℕ) → take (length xs) (joined_to ps xs) ≡ zip_with ◌+◌ (take (length xs) ps) xs
+joined_all : (ps xs : List ℕ) → length ps ≡ length xs → joined_to ps xs ≡ zip_with ◌+◌ ps xs
 unfolding joined_to zip_with
-joined_all [] [] = refl
-joined_all [] (x ∷ xs) = refl
-joined_all (p ∷ ps) [] = refl
-joined_all (p ∷ ps) (x ∷ xs) = ap (◌∷◌ (p + x)) (joined_all ps xs)
+joined_all [] xs e = refl
+joined_all (p ∷ ps) [] e = absurd (omega arith)
+joined_all (p ∷ ps) (x ∷ xs) e = ap (◌∷◌ (p + x)) (joined_all ps xs (omega arith))
 
 -- of a table to which so many figures are joined
 module _ (ps xs : List ℕ) {table : List ℕ} (held : table ≡ joined_to ps xs) {n : ℕ} (count : length xs ≡ n) where
@@ -45,5 +45,5 @@ module _ (ps xs : List ℕ) {table : List ℕ} (held : table ≡ joined_to ps xs
       ∙ ap (λ l. set l n (get_or ps n 0 + x)) held
       ∙ subst (λ k. set (joined_to ps xs) k (get_or ps k 0 + x) ≡ joined_to ps (xs ++ (x ∷ []))) count (joined_more ps xs x)
 
-  pub joined_whole : take n table ≡ zip_with ◌+◌ (take n ps) xs
-  joined_whole = ap (take n) held ∙ subst (λ k. take k (joined_to ps xs) ≡ zip_with ◌+◌ (take k ps) xs) count (joined_all ps xs)
+  pub joined_whole : length ps ≡ n → table ≡ zip_with ◌+◌ ps xs
+  joined_whole all = held ∙ joined_all ps xs (all ∙ sym count)

@@ -1,9 +1,8 @@
 -- The steps of the code that finds a game's prizes: a ticket from its row, the loop that fills the tables, the loop that raises the major prizes, and
 -- what a reached house gives.
-use Prim.Native.Nat.{ℕ, zero, suc, ◌+◌, ◌*◌, ◌-◌, ◌≤◌, ◌<◌, ◌^◌}
+use Prim.Native.Nat.{ℕ, zero, suc, ◌+◌, ◌*◌, ◌-◌, ◌≤◌, ◌<◌}
 use mathlib.Core.Path.{◌≡◌, refl, sym, ap, ap₂, ◌∙◌, subst}
 use mathlib.Core.Bool.{Bool, true, false, cond}
-use mathlib.Core.Logic.{⊎_elim}
 use mathlib.Core.List.{List, [], ◌∷◌, ◌++◌, map, map-map, map-append, append_assoc, Memᴰ}
 use native.Mathlib.Nat.{le_of_suc-le-suc, add-zero, zero-add, le_trans, mul-le-mul_right}
 use native.Mathlib.Numerals.{add-one}
@@ -11,8 +10,8 @@ use native.Mathlib.Decide.{dec_lt}
 use native.Mathlib.Omega.{arith}
 use lib.Dec.{leb}
 use borrow.Author.Tests.{leb-true, leb-false}
-use lib.ListN.{length, take, drop, set, get_or, length-append, length-map, length-set, get_or-eq_default, replicate, length-replicate}
-use lib.Seq.{sets, take_all, take-suc-set, take-append-le, drop-append_seam, take_at, get_or-take, get_or-set_other, ext_get_or, sets-eq, length-sets}
+use lib.ListN.{length, take, drop, set, get_or, length-append, length-map, length-set, get_or-eq_default}
+use lib.Seq.{sets, take_all, take-suc-set, take-append-le, drop-append_seam, take_at, ext_get_or, sets-eq, length-sets}
 use Rattle.sale.specs.Lists.{sum, below, keep}
 use Rattle.prizes.specs.Prize.{major_floor, is_major}
 use Rattle.prizes.specs.Cut.{majors_limit, payout}
@@ -21,12 +20,13 @@ use Rattle.prizes.specs.Hits.{hits}
 use Rattle.sale.specs.Bounds.{Playable}
 use Rattle.prizes.specs.Bounds.{way_prizes_limit}
 use Rattle.prizes.specs.Found.{group_sizes, group_hits, word_bytes, GroupsOf, FoundWith}
-use Rattle.prizes.specs.Rounds.{pay_under, Pays, Listed, Raisable}
+use Rattle.prizes.specs.Rounds.{pay_under, Pays, Raisable}
 use Rattle.prizes.specs.Settle.{prizes_by, full_by}
 use Rattle.prizes.specs.declared.draw.Draw.{Draw}
 use Rattle.sale.specs.declared.terms.Terms.{Terms}
 use Rattle.prizes.specs.declared.found.Found.{Found}
 use Rattle.prizes.specs.declared.cut.Cut.{Cut}
+use Rattle.prizes.specs.declared.majors.Majors.{Majors}
 use Rattle.sale.proofs.KeepLaws.{length_keep_le, sum_within}
 use Rattle.sale.proofs.MarkLaws.{figure_le, length_by_group}
 use Rattle.prizes.proofs.HitLaws.{word_bytes_lem}
@@ -37,15 +37,17 @@ use Rattle.house.specs.Tickets.{Ticket, runs_in, terms_of}
 use Rattle.house.specs.Commands.{blank_ticket}
 use Rattle.house.specs.Balance.{Reached}
 use Rattle.house.specs.View.{view, ticket_from, ticket_in}
-use Rattle.settlement.specs.Settling.{spread, PaidOut, prizes_at, matches_at, payouts_in, full_in}
-use Rattle.settlement.specs.Passing.{live_in, prizes_below, sure_cents, all_majors, Sold, SoldAll, Narrow, FoundAt, FoundAll, Cutting, Raised}
+use Rattle.settlement.specs.Settling.{spread, prizes_at, matches_at, payouts_in}
+use Rattle.settlement.specs.Passing.{live_in, prizes_below, sure_cents, all_majors, Sold, SoldAll, Narrow, FoundAt, full_of, no_ways, Cutting, CutOf, Raised}
+use Rattle.settlement.specs.Drawn.{drawn_tickets, ways_at, FoundAll, Matched, PaidOut}
+use Rattle.settlement.specs.declared.drawn_game.DrawnGame.{DrawnGame}
+use Rattle.settlement.specs.declared.ways.TicketWays.{TicketWays}
 use Rattle.house.specs.declared.state.House.{House}
 use Rattle.house.specs.declared.rows.Row.{Row}
 use Rattle.house.proofs.Ledger.{All, Kept}
 use Rattle.house.proofs.ReachedHouses.{reached_sure}
-use Rattle.house.proofs.ViewLaws.{live_count}
 use Rattle.house.proofs.RowLists.{get_or_map, length_table, get_or_table}
-use Rattle.settlement.proofs.PassLaws.{member_append, majors_snoc, majors_next, majors_split, own_major, majors_all, majors_large, prizes_small, prizes_few, paid_spread, matches_spread}
+use Rattle.settlement.proofs.PassLaws.{majors_snoc, majors_next, majors_split, own_major, majors_large, prizes_few, paid_spread, matches_spread}
 
 -- ---- one ticket, from its row
 
@@ -70,7 +72,7 @@ module _ (w : Row) (own : List ℕ) where
       ∙ word_bytes_lem (sizes own) (λ i. omega (arith, figure_le own i))
 
   -- by whether the ticket runs
-  module _ (game : ℕ) (draw : Draw) (before : ℕ) (majors : List ℕ) where
+  module _ (game : ℕ) (draw : Draw) (majors : Majors) where
     abbrev ticket : Ticket
     ticket = ticket_from w own
 
@@ -82,21 +84,23 @@ module _ (w : Row) (own : List ℕ) where
     unfolding matches_at
     matches_by b e = ap (λ t. cond t (full_by (terms_of ticket.operands) (sizes own) (hits draw own)) 0) e
 
-    pub ticket_rests : runs_in game ticket ≡ false
-        → FoundAt game draw (ticket_from w own) before majors (record { sure = 0; full = 0; majors = before }) majors
+    pub ticket_rests : runs_in game ticket ≡ false → FoundAt game draw (ticket_from w own) majors (record { sure = 0; full = 0 }) majors
     unfolding sum keep
     ticket_rests e =
         record {
           sure = sym (ap sure_cents (prizes_by_lem false e));
           full = sym (matches_by false e);
-          count = sym (ap (λ (l : List ℕ). before + length (keep is_major l)) (prizes_by_lem false e) ∙ add-zero before);
-          stored = sym (ap (λ (l : List ℕ). sets majors before (keep is_major l)) (prizes_by_lem false e));
+          behind =
+              record {
+                count = sym (ap (λ (l : List ℕ). majors.count + length (keep is_major l)) (prizes_by_lem false e) ∙ add-zero majors.count);
+                stored = sym (ap (λ (l : List ℕ). sets majors.prizes majors.count (keep is_major l)) (prizes_by_lem false e));
+              };
         }
 
     pub ticket_runs : runs_in game ticket ≡ true → Sold (ticket_from w own)
         → {t : Terms} → t ≡ terms_of (ticket_from w []).operands → {table : List ℕ} → GroupsOf w.sizes draw own table
-        → {r : Found} {majors' : List ℕ} → FoundWith t (group_sizes table) (group_hits table) before majors r majors'
-        → FoundAt game draw (ticket_from w own) before majors r majors'
+        → {r : Found} {majors' : Majors} → FoundWith t (group_sizes table) (group_hits table) majors r majors'
+        → FoundAt game draw (ticket_from w own) majors r majors'
     ticket_runs e sold terms {table} groups f =
         let same_sizes : group_sizes table ≡ sizes own = groups.sizes ∙ row_sizes sold in
         let same : prizes_by _ (group_sizes table) (group_hits table) ≡ prizes_by (terms_of ticket.operands) (sizes own) (hits draw own) =
@@ -107,8 +111,11 @@ module _ (w : Row) (own : List ℕ) where
         record {
           sure = ap (λ (x : Found). x.sure) f.found ∙ ap sure_cents prizes;
           full = ap (λ (x : Found). x.full) f.found ∙ full ∙ sym (matches_by true e);
-          count = ap (λ (x : Found). x.majors) f.found ∙ ap (λ (l : List ℕ). before + length (keep is_major l)) prizes;
-          stored = f.stored ∙ ap (λ (l : List ℕ). sets majors before (keep is_major l)) prizes;
+          behind =
+              record {
+                count = f.behind.count ∙ ap (λ (l : List ℕ). majors.count + length (keep is_major l)) prizes;
+                stored = f.behind.stored ∙ ap (λ (l : List ℕ). sets majors.prizes majors.count (keep is_major l)) prizes;
+              };
         }
 
 -- ---- lists by place
@@ -137,32 +144,31 @@ table_same f g xs same =
 
 -- ---- a table that is filled, by place
 
--- the first i places of a table hold f's values
-pub record Filled (f : ℕ → ℕ) (i : ℕ) (table : List ℕ) : Type 0 where
-  pub long : length table ≡ 200
+-- the first i of n places hold f's values
+pub record Filled {A : Type 0} (f : ℕ → A) (i n : ℕ) (table : List A) : Type 0 where
+  pub long : length table ≡ n
   pub values : take i table ≡ map f (below i)
 
-module _ (f : ℕ → ℕ) where
-  pub filled_none : {table : List ℕ} → length table ≡ 200 → Filled f 0 table
+module _ {A : Type 0} (f : ℕ → A) where
+  pub filled_none : {n : ℕ} {table : List A} → length table ≡ n → Filled f 0 n table
   unfolding below
   filled_none long = record { long = long; values = refl }
 
-  pub filled_more : {i : ℕ} {table : List ℕ} → Filled f i table → i < 200 → (x : ℕ) → x ≡ f i → Filled f (i + 1) (set table i x)
+  pub filled_more : {i n : ℕ} {table : List A} → Filled f i n table → i < n → (x : A) → x ≡ f i → Filled f (i + 1) n (set table i x)
   unfolding below
-  filled_more {i} {table} filled inside x e =
+  filled_more {i} {n} {table} filled inside x e =
       record {
         long = length-set table i x ∙ filled.long;
         values =
-            ap (λ n. take n (set table i x)) (add-one i)
+            ap (λ k. take k (set table i x)) (add-one i)
             ∙ take-suc-set table i x (omega (arith, filled.long))
             ∙ ap₂ (λ xs y. xs ++ (y ∷ [])) filled.values e
-            ∙ sym (ap (λ n. map f (below n)) (add-one i) ∙ map-append f (below i) (i ∷ []));
+            ∙ sym (ap (λ k. map f (below k)) (add-one i) ∙ map-append f (below i) (i ∷ []));
       }
 
-  -- one value
-  pub filled_at : {i : ℕ} {table : List ℕ} → Filled f i table → (k : ℕ) → k < i → get_or table k 0 ≡ f k
-  filled_at {i} {table} filled k h =
-      sym (get_or-take i table k 0 h) ∙ ap (λ (l : List ℕ). get_or l k 0) filled.values ∙ get_or_table f i k 0 h
+  pub filled_all : {i n : ℕ} {table : List A} → Filled f i n table → i ≡ n → table ≡ map f (below n)
+  filled_all {i} {n} {table} filled all =
+      sym (take_all n table (omega (arith, filled.long))) ∙ ap (λ k. take k table) (sym all) ∙ filled.values ∙ ap (λ k. map f (below k)) all
 
 -- the first places of a table by place
 take_table : {A : Type 0} (f : ℕ → A) (n i : ℕ) → i ≤ n → take i (map f (below n)) ≡ map f (below i)
@@ -181,96 +187,69 @@ take_table f (suc n) i h = go (leb i n) refl (take_table f n i)
         (take_all (suc n) (map f (below n ++ (n ∷ [])))
         (omega (arith, length-map (below n ++ (n ∷ [])) f, length-append (below n) (n ∷ []), length-map (below n) f, length_table f n)))
 
--- ---- the loop that fills the tables
+-- ---- the loop that fills the table of ways
 
-module _ (words marks : List ℕ) (game : ℕ) (draw : Draw) (live : ℕ) where
-  abbrev pub ticket_at : ℕ → Ticket
-  ticket_at i = ticket_in words marks i
+module _ (g : DrawnGame) where
+  abbrev ticket_at : ℕ → Ticket
+  ticket_at i = ticket_in g.rows.now g.marks.now i
 
-  abbrev below_i : ℕ → List (List ℕ)
-  below_i i = prizes_below words marks game draw i
+  abbrev prize_lists : ℕ → List (List ℕ)
+  prize_lists i = prizes_below g.rows.now g.marks.now g.game g.draw i
 
   -- after the first i tickets
-  pub record Finding (before : List ℕ) (i : ℕ) (sure full ends majors : List ℕ) (count : ℕ) : Type 0 where
-    pub inside : i ≤ live
-    pub cents : Filled (λ k. sure_cents (prizes_at game draw (ticket_in words marks k))) i sure
-    pub matches : Filled (λ k. matches_at game draw (ticket_in words marks k)) i full
-    pub up_to : Filled (λ k. length (all_majors (prizes_below words marks game draw (k + 1)))) i ends
-    pub listed : majors ≡ sets before 0 (all_majors (prizes_below words marks game draw i))
-    pub together : count ≡ length (all_majors (prizes_below words marks game draw i))
-    pub few : count ≤ i * 255
+  pub record Finding (before : List ℕ) (i : ℕ) (ways : List TicketWays) (majors : Majors) : Type 0 where
+    pub inside : i ≤ g.live
+    pub found : Filled (ways_at g) i g.live ways
+    pub listed : majors.prizes ≡ sets before 0 (all_majors (prizes_below g.rows.now g.marks.now g.game g.draw i))
+    pub together : majors.count ≡ length (all_majors (prizes_below g.rows.now g.marks.now g.game g.draw i))
+    pub few : majors.count ≤ i * 255
 
-  pub finding_none : {sure full ends : List ℕ} (majors : List ℕ) → length sure ≡ 200 → length full ≡ 200 → length ends ≡ 200
-      → Finding majors 0 sure full ends majors 0
+  pub finding_none : {ways : List TicketWays} (majors : Majors) → length ways ≡ g.live → majors.count ≡ 0 → Finding majors.prizes 0 ways majors
   unfolding below all_majors
-  finding_none majors s f e =
-      record {
-        inside = omega arith;
-        cents = filled_none _ s;
-        matches = filled_none _ f;
-        up_to = filled_none _ e;
-        listed = refl;
-        together = refl;
-        few = omega arith;
-      }
+  finding_none majors long none =
+      record { inside = omega arith; found = filled_none _ long; listed = refl; together = none; few = omega arith }
 
   -- the major prizes with one ticket more
-  majors_more : (i : ℕ) → all_majors (below_i (i + 1)) ≡ all_majors (below_i i) ++ keep is_major (prizes_at game draw (ticket_at i))
+  majors_more : (i : ℕ) → all_majors (prize_lists (i + 1)) ≡ all_majors (prize_lists i) ++ keep is_major (prizes_at g.game g.draw (ticket_at i))
   unfolding below
   majors_more i =
-      ap (λ n. all_majors (below_i n)) (add-one i)
-      ∙ ap all_majors (map-append (λ k. prizes_at game draw (ticket_at k)) (below i) (i ∷ []))
-      ∙ majors_snoc (below_i i) (prizes_at game draw (ticket_at i))
+      ap (λ n. all_majors (prize_lists n)) (add-one i)
+      ∙ ap all_majors (map-append (λ k. prizes_at g.game g.draw (ticket_at k)) (below i) (i ∷ []))
+      ∙ majors_snoc (prize_lists i) (prizes_at g.game g.draw (ticket_at i))
 
-  module _ {before : List ℕ} {i : ℕ} {sure full ends majors : List ℕ} {count : ℕ} (f : Finding before i sure full ends majors count) where
-    pub finding_more : i < live → live ≤ 200 → Playable (ticket_in words marks i).operands → (r : Found) {majors' : List ℕ}
-        → FoundAt game draw (ticket_in words marks i) count majors r majors'
-        → Finding before (i + 1) (set sure i r.sure) (set full i r.full) (set ends i r.majors) majors' r.majors
-    finding_more inside most playable r a =
-        let own = keep is_major (prizes_at game draw (ticket_at i)) in
-        let own_few : length own ≤ 255 = omega (arith, length_keep_le is_major (prizes_at game draw (ticket_at i)), prizes_few game draw (ticket_at i) playable) in
-        let counted : r.majors ≡ length (all_majors (below_i (i + 1))) =
-        a.count ∙ ap (λ n. n + length own) f.together ∙ sym (ap length (majors_more i) ∙ length-append (all_majors (below_i i)) own) in
+  module _ {before : List ℕ} {i : ℕ} {ways : List TicketWays} {majors : Majors} (f : Finding before i ways majors) where
+    pub finding_more : i < g.live → (r : Found) (majors' : Majors)
+        → FoundAt g.game g.draw (ticket_in g.rows.now g.marks.now i) majors r majors'
+        → Finding before (i + 1) (set ways i (record { sure = r.sure; full = r.full; majors = majors'.count })) majors'
+    finding_more inside r majors' a =
+        let own = keep is_major (prizes_at g.game g.draw (ticket_at i)) in
+        let own_few : length own ≤ 255 = omega (arith, length_keep_le is_major (prizes_at g.game g.draw (ticket_at i)), prizes_few g.game g.draw (ticket_at i) (g.sold.each i inside).playable) in
+        let counted : majors'.count ≡ length (all_majors (prize_lists (i + 1))) =
+        a.behind.count ∙ ap (λ n. n + length own) f.together ∙ sym (ap length (majors_more i) ∙ length-append (all_majors (prize_lists i)) own) in
+        let here : record { sure = r.sure; full = r.full; majors = majors'.count } ≡ ways_at g i = λ k. record { sure = a.sure k; full = a.full k; majors = counted k } in
         record {
           inside = omega arith;
-          cents = filled_more _ f.cents (omega arith) r.sure a.sure;
-          matches = filled_more _ f.matches (omega arith) r.full a.full;
-          up_to = filled_more _ f.up_to (omega arith) r.majors counted;
+          found = filled_more _ f.found inside _ here;
           listed =
-              a.stored ∙ ap₂ (λ (l : List ℕ) (n : ℕ). sets l n own) f.listed (f.together ∙ sym (zero-add (length (all_majors (below_i i)))))
-              ∙ sets_append (all_majors (below_i i)) own before 0 ∙ ap (sets before 0) (sym (majors_more i));
+              a.behind.stored ∙ ap₂ (λ (l : List ℕ) (n : ℕ). sets l n own) f.listed (f.together ∙ sym (zero-add (length (all_majors (prize_lists i)))))
+              ∙ sets_append (all_majors (prize_lists i)) own before 0 ∙ ap (sets before 0) (sym (majors_more i));
           together = counted;
-          few = omega (arith, a.count, f.few);
+          few = omega (arith, a.behind.count, f.few);
         }
 
-    pub finding_all : live ≤ i → FoundAll words marks game draw live sure full ends before majors count
-    finding_all end =
-        let all : i ≡ live = omega (arith, f.inside) in
-        let long : length (below_i live) ≡ live = length_table (λ k. prizes_at game draw (ticket_at k)) live in
+    pub finding_all : g.live ≤ i → length before ≡ 250 → FoundAll g ways before majors
+    finding_all end places =
+        let all : i ≡ g.live = omega (arith, f.inside) in
         record {
-          tables =
-              record {
-                cents =
-                    ap (λ n. take n sure) (long ∙ sym all) ∙ f.cents.values
-                    ∙ ap (λ n. map (λ k. sure_cents (prizes_at game draw (ticket_at k))) (below n)) all
-                    ∙ sym (map-map sure_cents (λ k. prizes_at game draw (ticket_at k)) (below live));
-                up_to =
-                    λ k h.
-                    filled_at _ f.up_to k (omega (arith, long))
-                    ∙ ap (λ (l : List (List ℕ)). length (all_majors l))
-                    (sym (take_table (λ k. prizes_at game draw (ticket_at k)) live (k + 1) (omega (arith, long))));
-              };
-          matches =
-              ap (λ n. take n full) (sym all) ∙ f.matches.values
-              ∙ ap (λ n. map (λ k. matches_at game draw (ticket_at k)) (below n)) all
-              ∙ sym (map-map (matches_at game draw) (ticket_at) (below live));
-          listed = f.listed ∙ ap (λ n. sets before 0 (all_majors (below_i n))) all;
-          together = f.together ∙ ap (λ n. length (all_majors (below_i n))) all;
+          found = filled_all _ f.found all;
+          listed = f.listed ∙ ap (λ n. sets before 0 (all_majors (prize_lists n))) all;
+          together = f.together ∙ ap (λ n. length (all_majors (prize_lists n))) all;
+          places = places;
         }
 
 -- ---- the loop that raises the major prizes
 
-module _ (pss : List (List ℕ)) (sure ends majors : List ℕ) (c : Cut) (k : Cutting pss sure ends majors c) where
+module _ (pss : List (List ℕ)) (ways : List TicketWays) (majors : List ℕ) (c : Cut) (k : Cutting pss ways majors c) where
   abbrev all : List ℕ
   all = all_majors pss
 
@@ -286,7 +265,7 @@ module _ (pss : List (List ℕ)) (sure ends majors : List ℕ) (c : Cut) (k : Cu
 
   module _ (i : ℕ) (inside : i < length pss) where
     -- a ticket's major prizes in the table
-    pub start_next : get_or ends i 0 ≡ length (all_majors (take i pss)) + length (keep is_major (get_or pss i []))
+    pub start_next : (get_or ways i no_ways).majors ≡ length (all_majors (take i pss)) + length (keep is_major (get_or pss i []))
     start_next =
         k.tables.up_to i inside
         ∙ ap (λ n. length (all_majors (take n pss))) (add-one i)
@@ -327,7 +306,6 @@ module _ (pss : List (List ℕ)) (sure ends majors : List ℕ) (c : Cut) (k : Cu
         λ p m. own_major pss i p inside (subst (Memᴰ p) part m) in
         record {
           inside = omega (arith, own_inside);
-          long = k.long;
           small = λ p m. k.small p (among p m);
           least = λ p m. subst (λ x. major_floor ≤ x) (sym (k.pays.each p (among p m))) (payout_floor all p (among p m) (majors_large pss p (among p m)));
           most = λ p m. subst (λ x. x ≤ majors_limit) (sym (k.pays.each p (among p m))) (payout_le all p (among p m));
@@ -345,7 +323,7 @@ module _ (pss : List (List ℕ)) (sure ends majors : List ℕ) (c : Cut) (k : Cu
     -- no ticket is paid more than the limit for each way
     pub paid_small : paid_to i ≤ way_prizes_limit
     paid_small =
-        le_trans (sum_within (payout all) majors_limit (get_or pss i []) each) (mul-le-mul_right majors_limit (k.ways i))
+        le_trans (sum_within (payout all) majors_limit (get_or pss i []) each) (mul-le-mul_right majors_limit (k.prizes i))
       where
         each : (p : ℕ) → Memᴰ p (get_or pss i []) → payout all p ≤ majors_limit
         each p m = go (is_major p) refl
@@ -354,37 +332,37 @@ module _ (pss : List (List ℕ)) (sure ends majors : List ℕ) (c : Cut) (k : Cu
             go true e = payout_le all p (own_major pss i p inside (keep_member is_major (get_or pss i []) p m e))
             go false e = omega (arith, leb-false major_floor p e, payout_minor all p (leb-false major_floor p e))
 
-  -- after the first i tickets; what the others are paid stands as it did
+  pub ways_count : length ways ≡ length pss
+  ways_count = sym (length-map ways _) ∙ ap length k.tables.cents ∙ length-map pss sure_cents
+
+  -- after the first i tickets
   pub record Raising (i : ℕ) (paid : List ℕ) (from : ℕ) : Type 0 where
     pub inside : i ≤ length pss
     pub place : from ≡ length (all_majors (take i pss))
-    pub done : Filled (λ j. sum (map (payout (all_majors pss)) (get_or pss j []))) i paid
-    pub ahead : (j : ℕ) → i ≤ j → get_or paid j 0 ≡ get_or sure j 0
+    pub done : Filled (λ j. sum (map (payout (all_majors pss)) (get_or pss j []))) i (length pss) paid
 
-  pub raising_none : length sure ≡ 200 → Raising 0 sure 0
+  pub raising_none : {paid : List ℕ} → length paid ≡ length ways → Raising 0 paid 0
   unfolding all_majors
-  raising_none long = record { inside = omega arith; place = refl; done = filled_none _ long; ahead = λ j h. refl }
+  raising_none long = record { inside = omega arith; place = refl; done = filled_none _ (long ∙ ways_count) }
 
-  -- what is sure of a ticket that is still ahead
-  pub sure_ahead : {i : ℕ} {paid : List ℕ} {from : ℕ} → Raising i paid from → i < length pss → get_or paid i 0 ≡ sure_cents (get_or pss i [])
-  sure_ahead {i} r inside =
-      r.ahead i (omega arith) ∙ sym (get_or-take (length pss) sure i 0 inside)
+  -- what is sure of a ticket
+  pub sure_at : (i : ℕ) → i < length pss → (get_or ways i no_ways).sure ≡ sure_cents (get_or pss i [])
+  sure_at i inside =
+      sym (get_or_map (λ w. w.sure) ways i no_ways 0 (omega (arith, ways_count)))
       ∙ ap (λ (l : List ℕ). get_or l i 0) k.tables.cents ∙ get_or_map_at sure_cents pss i inside
 
-  pub raising_more : {i : ℕ} {paid : List ℕ} {from end x : ℕ} → Raising i paid from → i < length pss → end ≡ get_or ends i 0
-      → x ≡ sum (map (payout (all_majors pss)) (get_or pss i [])) → Raising (i + 1) (set paid i x) end
-  raising_more {i} {paid} {from} {end} {x} r inside e paidx =
+  pub raising_more : {i : ℕ} {paid : List ℕ} {from x : ℕ} → Raising i paid from → i < length pss
+      → x ≡ sum (map (payout (all_majors pss)) (get_or pss i [])) → Raising (i + 1) (set paid i x) ((get_or ways i no_ways).majors)
+  raising_more {i} {paid} {from} {x} r inside paidx =
       record {
         inside = omega arith;
-        place = e ∙ start_next i inside ∙ sym (ap (λ n. length (all_majors (take n pss))) (add-one i) ∙ ap length (majors_next pss i inside) ∙ length-append (all_majors (take i pss)) (own i));
-        done = filled_more _ r.done (omega (arith, k.few)) x paidx;
-        ahead = λ j h. get_or-set_other paid i j x 0 (λ same. omega arith) ∙ r.ahead j (omega arith);
+        place = start_next i inside ∙ sym (ap (λ n. length (all_majors (take n pss))) (add-one i) ∙ ap length (majors_next pss i inside) ∙ length-append (all_majors (take i pss)) (own i));
+        done = filled_more _ r.done inside x paidx;
       }
 
-  pub raising_all : {i : ℕ} {paid : List ℕ} {from : ℕ} → Raising i paid from → length pss ≤ i → Raised pss paid
+  pub raising_all : {i : ℕ} {paid : List ℕ} {from : ℕ} → Raising i paid from → length ways ≤ i → Raised pss paid
   raising_all {i} {paid} r end =
-      let whole : i ≡ length pss = omega (arith, r.inside) in
-      ap (λ n. take n paid) (sym whole) ∙ r.done.values ∙ ap (λ n. map paid_to (below n)) whole
+      filled_all paid_to r.done (omega (arith, r.inside, ways_count))
       ∙ sym (ap (map (λ ps. sum (map (payout all) ps))) (list_table pss []) ∙ map-map (λ ps. sum (map (payout all) ps)) (λ j. get_or pss j []) (below (length pss)))
 
 -- ---- a reached house
@@ -404,20 +382,8 @@ reached_sold h words marks r =
       each =
           λ i inside.
           let kept = all_at (Kept h.game) (live_in words marks h.live) i blank_ticket sure.kept (omega arith) in
-          subst Sold (get_or_table (ticket_in words marks) h.live i blank_ticket inside) (record { playable = kept.fixed.playable; sized = kept.fixed.sized });
+          subst Sold (get_or_table (ticket_in words marks) h.live i blank_ticket inside) (record { playable = kept.fixed.playable; counted = kept.fixed.counted; playing = kept.fixed.playing; sized = kept.fixed.sized });
     }
-
--- what holds of each place of a table holds of its members
-table_members : {A : Type 0} (f : ℕ → A) (P : A → Type 0) (n : ℕ) → ((k : ℕ) → k < n → P (f k)) → (x : A) → Memᴰ x (map f (below n)) → P x
-unfolding below
-table_members f P zero each x m = elim m [ ]
-table_members f P (suc n) each x m =
-    ⊎_elim (λ k. table_members f P n (λ j h. each j (omega arith)) x k) last
-    (member_append (map f (below n)) (f n ∷ []) x (subst (Memᴰ x) (map-append f (below n) (n ∷ [])) m))
-  where
-    last : Memᴰ x (f n ∷ []) → P x
-    last (Memᴰ.head e) = subst P (sym e) (each n (omega arith))
-    last (Memᴰ.tail k) = elim k [ ]
 
 -- ---- a game without live tickets
 
@@ -426,39 +392,45 @@ unfolding spread
 nothing game figures [] e = refl
 nothing game figures (t ∷ ts) e = absurd (omega arith)
 
--- there is nothing to pay
-pub nothing_spread : (h : House) (words marks figures : List ℕ) → h.live ≡ 0 → spread (view h words marks).game figures (view h words marks).live ≡ []
-nothing_spread h words marks figures none =
-    nothing (view h words marks).game figures (view h words marks).live (live_count h words marks ∙ none)
+empty : {A : Type 0} (xs : List A) → length xs ≡ 0 → xs ≡ []
+empty [] e = refl
+empty (x ∷ xs) e = absurd (omega arith)
 
-pub nothing_taken : (h : House) (words marks table : List ℕ) → h.live ≡ 0 → take (length (view h words marks).live) table ≡ []
-nothing_taken h words marks table none = ap (λ n. take n table) (live_count h words marks ∙ none)
+-- there is nothing to pay
+pub nothing_paid : (g : DrawnGame) (ways : List TicketWays) (paid : List ℕ) → g.live ≡ 0 → length ways ≡ g.live → length paid ≡ g.live → PaidOut g ways paid
+nothing_paid g ways paid none no_ways no_cents =
+    let none_drawn : length (drawn_tickets g) ≡ 0 = length_table (ticket_in g.rows.now g.marks.now) g.live ∙ none in
+    record {
+      payouts = empty paid (no_cents ∙ none) ∙ sym (nothing g.game _ (drawn_tickets g) none_drawn);
+      matches = ap full_of (empty ways (no_ways ∙ none)) ∙ sym (nothing g.game _ (drawn_tickets g) none_drawn);
+    }
 
 -- ---- what the ways are paid, by place and by ticket
 
-module _ (h : House) (words marks : List ℕ) (draw : Draw) where
+module _ (g : DrawnGame) where
   abbrev placed : List (List ℕ)
-  placed = prizes_below words marks h.game draw h.live
+  placed = prizes_below g.rows.now g.marks.now g.game g.draw g.live
 
-  pub placed_count : length (prizes_below words marks h.game draw h.live) ≡ h.live
-  placed_count = length_table (λ k. prizes_at h.game draw (ticket_in words marks k)) h.live
+  abbrev prize_at : ℕ → List ℕ
+  prize_at k = prizes_at g.game g.draw (ticket_in g.rows.now g.marks.now k)
+
+  placed_count : length placed ≡ g.live
+  placed_count = length_table prize_at g.live
 
   -- what the rule pays
   rule_spread :
       map (λ ps. sum (map (payout (all_majors placed)) ps)) placed
-      ≡ spread (view h words marks).game (payouts_in (view h words marks).game draw (view h words marks).live) (view h words marks).live
-  unfolding view
+      ≡ spread g.game (payouts_in g.game g.draw (drawn_tickets g)) (drawn_tickets g)
   rule_spread =
-      let same : placed ≡ map (prizes_at h.game draw) (live_in words marks h.live) =
-      sym (map-map (prizes_at h.game draw) (ticket_in words marks) (below h.live)) in
+      let same : placed ≡ map (prizes_at g.game g.draw) (drawn_tickets g) =
+      sym (map-map (prizes_at g.game g.draw) (ticket_in g.rows.now g.marks.now) (below g.live)) in
       ap (λ (l : List (List ℕ)). map (λ ps. sum (map (payout (all_majors l)) ps)) l) same
-      ∙ paid_spread h.game draw (live_in words marks h.live)
+      ∙ paid_spread g.game g.draw (drawn_tickets g)
 
   -- which is what is sure where 250 are major or more
-  pub sure_spread : 250 ≤ length (all_majors (prizes_below words marks h.game draw h.live))
-      → spread (view h words marks).game (payouts_in (view h words marks).game draw (view h words marks).live) (view h words marks).live
-      ≡ map sure_cents (prizes_below words marks h.game draw h.live)
-  sure_spread many = sym (table_same sure_cents (λ ps. sum (map (payout (all_majors placed)) ps)) placed each ∙ rule_spread)
+  sure_spread : 250 ≤ length (all_majors placed)
+      → map sure_cents placed ≡ spread g.game (payouts_in g.game g.draw (drawn_tickets g)) (drawn_tickets g)
+  sure_spread many = table_same sure_cents (λ ps. sum (map (payout (all_majors placed)) ps)) placed each ∙ rule_spread
     where
       each : (i : ℕ) → i < length placed → sure_cents (get_or placed i []) ≡ sum (map (payout (all_majors placed)) (get_or placed i []))
       each i inside =
@@ -466,76 +438,66 @@ module _ (h : House) (words marks : List ℕ) (draw : Draw) where
           (paid_sure (all_majors placed) (get_or placed i [])
           (λ p m. payout_many (all_majors placed) (majors_large placed) many p (own_major placed i p inside m)))
 
-  -- the full matches
-  pub full_spread :
-      spread (view h words marks).game (full_in (view h words marks).game draw (view h words marks).live) (view h words marks).live
-      ≡ map (matches_at h.game draw) (live_in words marks h.live)
-  unfolding view
-  full_spread = sym (matches_spread h.game draw (live_in words marks h.live))
+  -- ---- the parts together
 
--- ---- the parts together
+  module _ {ways : List TicketWays} {before : List ℕ} {majors : Majors} (f : FoundAll g ways before majors) where
+    matched : Matched g ways
+    matched =
+        ap full_of f.found ∙ map-map (λ w. w.full) (ways_at g) (below g.live)
+        ∙ sym (map-map (matches_at g.game g.draw) (ticket_in g.rows.now g.marks.now) (below g.live))
+        ∙ matches_spread g.game g.draw (drawn_tickets g)
 
-module _ (h : House) (words marks : List ℕ) (draw : Draw) (sold : SoldAll words marks h.live) {sure full ends majors : List ℕ} {count : ℕ}
-    (f : FoundAll words marks h.game draw h.live sure full ends (replicate 250 0) majors count) where
-  abbrev pub found : List (List ℕ)
-  found = prizes_below words marks h.game draw h.live
+    sure_found : map (λ w. w.sure) ways ≡ map sure_cents placed
+    sure_found =
+        ap (map (λ w. w.sure)) f.found ∙ map-map (λ w. w.sure) (ways_at g) (below g.live) ∙ sym (map-map sure_cents prize_at (below g.live))
 
-  abbrev prize_at : ℕ → List ℕ
-  prize_at k = prizes_at h.game draw (ticket_in words marks k)
+    -- what the rule pays the ways where 250 prizes are major or more
+    pub sure_paid : {paid : List ℕ} → 250 ≤ majors.count → paid ≡ map (λ w. w.sure) ways → PaidOut g ways paid
+    sure_paid many paid = record { payouts = paid ∙ sure_found ∙ sure_spread (omega (arith, f.together)); matches = matched }
 
-  long : length majors ≡ 250
-  long = ap length f.listed ∙ length-sets (replicate 250 0) 0 (all_majors found) ∙ length-replicate {A = ℕ} 250 0
+    long : length majors.prizes ≡ 250
+    long = ap length f.listed ∙ length-sets before 0 (all_majors placed) ∙ f.places
 
-  small : (p : ℕ) → Memᴰ p (all_majors found) → p < 2 ^ 40
-  small =
-      majors_all (λ p. p < 2 ^ 40) found
-      (table_members prize_at (λ ps. (p : ℕ) → Memᴰ p ps → p < 2 ^ 40) h.live
-      (λ k inside. prizes_small h.game draw (ticket_in words marks k) (sold.each k inside).playable))
+    prizes_le : (i : ℕ) → Dec (i < g.live) → length (get_or placed i []) ≤ 255
+    prizes_le i (yes inside) =
+        subst (λ (l : List ℕ). length l ≤ 255) (sym (get_or_table prize_at g.live i [] inside))
+        (prizes_few g.game g.draw (ticket_in g.rows.now g.marks.now i) (g.sold.each i inside).playable)
+    prizes_le i (no past) = rw (get_or-eq_default placed [] {n = i} (omega (arith, placed_count))) (omega arith)
 
-  ways_le : (i : ℕ) → Dec (i < h.live) → length (get_or found i []) ≤ 255
-  ways_le i (yes inside) =
-      subst (λ (l : List ℕ). length l ≤ 255) (sym (get_or_table prize_at h.live i [] inside))
-      (prizes_few h.game draw (ticket_in words marks i) (sold.each i inside).playable)
-  ways_le i (no past) = rw (get_or-eq_default found [] {n = i} (omega (arith, placed_count h words marks draw))) (omega arith)
+    up_to : (i : ℕ) → i < length placed → (get_or ways i no_ways).majors ≡ length (all_majors (take (i + 1) placed))
+    up_to i h =
+        let inside : i < g.live = omega (arith, placed_count) in
+        ap (λ (l : List TicketWays). (get_or l i no_ways).majors) f.found
+        ∙ ap (λ (w : TicketWays). w.majors) (get_or_table (ways_at g) g.live i no_ways inside)
+        ∙ ap (λ (l : List (List ℕ)). length (all_majors l)) (sym (take_table prize_at g.live (i + 1) (omega arith)))
 
-  module _ (few : count < 250) where
-    abbrev others : List ℕ
-    others = drop (0 + length (all_majors found)) (replicate 250 0)
+    module _ (few : majors.count < 250) where
+      abbrev others : List ℕ
+      others = drop (0 + length (all_majors placed)) before
 
-    whole : majors ≡ all_majors found ++ others
-    whole = f.listed ∙ sets-eq (all_majors found) (replicate 250 0) 0 (omega (arith, f.together, length-replicate {A = ℕ} 250 0))
+      whole : majors.prizes ≡ all_majors placed ++ others
+      whole = f.listed ∙ sets-eq (all_majors placed) before 0 (omega (arith, f.together, f.places))
 
-    pub first_prizes : take count majors ≡ all_majors (prizes_below words marks h.game draw h.live)
-    first_prizes = ap (take count) whole ∙ take_at (all_majors found) others count (sym f.together)
+      first_prizes : take majors.count majors.prizes ≡ all_majors placed
+      first_prizes = ap (take majors.count) whole ∙ take_at (all_majors placed) others majors.count (sym f.together)
 
-    pub found_listed : Listed majors count
-    found_listed =
-        record {
-          few = omega arith;
-          long = long;
-          large = λ p m. majors_large found p (subst (Memᴰ p) first_prizes m);
-          small = λ p m. small p (subst (Memᴰ p) first_prizes m);
-        }
+      found_cutting : {c : Cut} → Pays c (take majors.count majors.prizes) → Cutting placed ways majors.prizes c
+      found_cutting {c} pays =
+          record {
+            few = omega (arith, placed_count, g.sold.few);
+            prizes = λ i. prizes_le i (dec_lt i g.live);
+            tables = record { cents = sure_found; up_to = up_to };
+            long = long;
+            rest = others;
+            whole = whole;
+            small = λ p m. (majors.listed.each p (subst (Memᴰ p) (sym first_prizes) m)).small;
+            pays = subst (Pays c) first_prizes pays;
+          }
 
-    pub found_cutting : {c : Cut} → Pays c (take count majors)
-        → Cutting (prizes_below words marks h.game draw h.live) sure ends majors c
-    found_cutting {c} pays =
-        record {
-          few = omega (arith, placed_count h words marks draw, sold.few);
-          ways = λ i. ways_le i (dec_lt i h.live);
-          tables = f.tables;
-          long = long;
-          rest = others;
-          whole = whole;
-          small = small;
-          pays = subst (Pays c) first_prizes pays;
-        }
+      pub found_cut : {c : Cut} → Pays c (take majors.count majors.prizes) → CutOf ways majors.prizes c
+      found_cut pays = record { prizes = placed; cutting = found_cutting pays }
 
-  -- what the rule pays the ways
-  pub raised_paid : {paid : List ℕ} → Raised (prizes_below words marks h.game draw h.live) paid → PaidOut (view h words marks) draw paid full
-  raised_paid {paid} r =
-      let live : length (view h words marks).live ≡ h.live = live_count h words marks in
-      record {
-        payouts = ap (λ n. take n paid) (live ∙ sym (placed_count h words marks draw)) ∙ r ∙ rule_spread h words marks draw;
-        matches = ap (λ n. take n full) live ∙ f.matches ∙ sym (full_spread h words marks draw);
-      }
+      -- and where they are fewer
+      pub raised_paid : {c : Cut} → Pays c (take majors.count majors.prizes) → {paid : List ℕ}
+          → ((pss : List (List ℕ)) → Cutting pss ways majors.prizes c → Raised pss paid) → PaidOut g ways paid
+      raised_paid pays raised = record { payouts = raised placed (found_cutting pays) ∙ rule_spread; matches = matched }

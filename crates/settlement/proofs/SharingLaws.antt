@@ -8,11 +8,11 @@ use mathlib.Core.Path.{◌≡◌, refl, sym, ap, subst, subst⁻¹, ◌∙◌}
 use mathlib.Core.Bool.{Bool, true, false, cond}
 use mathlib.Core.List.{List, [], ◌∷◌, ◌++◌, map, map-map, map-append, zip_with}
 use lib.Dec.{eqb, ltb}
-use lib.ListN.{length, take, set, get_or, length-map}
-use lib.Seq.{get_or-take}
-use borrow.Author.Tests.{ltb-true, ltb-false, lt-ltb}
+use lib.ListN.{length, set, get_or, length-map}
+use borrow.Author.Tests.{ltb-true, ltb-false, lt-ltb, eq-eqb, ne_eqb}
 use Rattle.sale.specs.Lists.{sum, keep, below}
-use Rattle.sale.specs.Price.{charge_limit, charge}
+use Rattle.sale.specs.Price.{charge_limit, charge, game_price}
+use Rattle.sale.specs.Checks.{price_of, feature_stake}
 use Rattle.prizes.specs.Bounds.{Roomy, Sharing}
 use Rattle.prizes.specs.Jackpots.{Winner, winning_stake, winning_stakes, share_of, odd_cents, shares_from, jackpot_won, jackpot_shares, contribution, contributed, seed_of, reseeded, repaid_of, repaid}
 use Rattle.prizes.proofs.ShareLaws.{whole_shares, winning_ways, ticket_within, whole_within, length_shares_from, length_shares}
@@ -24,23 +24,24 @@ use Rattle.prizes.specs.declared.jackpot.Jackpot.{Jackpot}
 use Rattle.sale.proofs.KeepLaws.{length_keep_le}
 use Rattle.sale.proofs.WayLaws.{ways_few}
 use Rattle.house.specs.Tickets.{Ticket, runs_in, ticket_price, paid_stakes, entry_of}
-use Rattle.house.specs.View.{row_at, marks_at, ticket_from, ticket_in, Affordable, view}
-use Rattle.house.specs.Balance.{Reached}
-use Rattle.settlement.specs.Settling.{entries_of, spread, full_in, guarantee_of, SharedOut}
-use Rattle.house.specs.declared.state.House.{House}
+use Rattle.house.specs.View.{row_at, marks_at, ticket_from, ticket_in, Affordable}
+use Rattle.settlement.specs.Settling.{entries_of, spread, full_in, guarantee_of}
+use Rattle.settlement.specs.Passing.{Sold, full_of, no_ways}
+use Rattle.settlement.specs.Drawn.{drawn_tickets, Matched, PoolsFit, SharedOut}
+use Rattle.settlement.specs.declared.drawn_game.DrawnGame.{DrawnGame}
 use Rattle.house.specs.declared.rows.Row.{Row}
 use Rattle.settlement.specs.declared.shares.Part.{Part}
+use Rattle.settlement.specs.declared.ways.TicketWays.{TicketWays}
+use Rattle.settlement.specs.Kinds.{number_of}
+use Rattle.settlement.specs.declared.jackpot_kind.JackpotKind.{JackpotKind}
 use Rattle.settlement.specs.declared.figures.Stakes.{Stakes}
 use Rattle.settlement.specs.Sharing.{paid_at, paid_in, stakes_at, stakes_in, winner_from, winner_at, winners_in, stakes_of, Entered, Shareable}
-use Rattle.house.proofs.Ledger.{Kept}
 use Rattle.house.proofs.ListLaws.{cond_either}
-use Rattle.house.proofs.ViewLaws.{each_live}
-use Rattle.house.proofs.ReachedHouses.{reached_sure}
-use Rattle.house.proofs.SpanLaws.{price_kept}
+use Rattle.settlement.proofs.TablePlaces.{tables_alike}
 use Rattle.settlement.proofs.JoinedTables.{joined_to, joined_none, joined_place, joined_step, joined_whole}
-use Rattle.settlement.proofs.SpreadLaws.{spread_runs, spread_rests, spread_entries, spread_added, sum_spread}
+use Rattle.settlement.proofs.SpreadLaws.{spread_runs, spread_rests, spread_entries, spread_added, length_spread, sum_spread}
 use Rattle.house.proofs.MoneyLaws.{sum_snoc}
-use Rattle.house.proofs.RowLists.{length_table, get_or_table}
+use Rattle.house.proofs.RowLists.{get_or_map, length_table, get_or_table}
 
 -- ---- one row's paid stakes
 
@@ -195,26 +196,35 @@ module _ (words full : List ℕ) (j : ℕ) where
     winning_within (suc i) h =
         rw (← add-one i) (omega (arith, winning_more i, winning_within i (omega arith), winning_at_within i (omega arith)))
 
-  module _ (live primary stakes : ℕ) (won : Shareable words full j live primary stakes) where
+  module _ (live primary stakes : ℕ) (shared : Shareable words full j live primary stakes) (some : 0 < stakes) where
     -- each ticket's winning ways among all of them
-    pub sharing_at : (i : ℕ) → i < live → Sharing primary stakes (winner_at words full j i).count (winner_at words full j i).stake
+    sharing_at : (i : ℕ) → i < live → Sharing primary stakes (winner_at words full j i).count (winner_at words full j i).stake
     unfolding winning_stakes winner_at
     sharing_at i h =
         record {
-          pool = omega (arith, won.pool);
-          limit = won.entered.stakes i h;
-          total = omega (arith, won.total, won.entered.few, winning_within live won.entered live (omega arith));
-          won = won.won;
-          part = omega (arith, won.total, figure_within winning_stake live i h);
-          few = omega (arith, winners_few live won.entered i h);
+          pool = omega (arith, shared.pool);
+          limit = shared.entered.stakes i h;
+          total = omega (arith, shared.total, shared.entered.few, winning_within live shared.entered live (omega arith));
+          won = some;
+          part = omega (arith, shared.total, figure_within winning_stake live i h);
+          few = omega (arith, winners_few live shared.entered i h);
         }
+
+    -- the same of winning ways that were read
+    module _ {count stake : ℕ} (i : ℕ) (counted : count ≡ (winner_at words full j i).count) (staked : stake ≡ (winner_at words full j i).stake) where
+      pub sharing_of : i < live → Sharing primary stakes count stake
+      sharing_of h = subst⁻¹ (λ n. Sharing primary stakes n stake) counted (subst⁻¹ (Sharing primary stakes (winner_at words full j i).count) staked (sharing_at i h))
+
+      pub share_here : (odd : ℕ) {share : ℕ} → share ≡ count * share_of primary stakes stake + min odd count
+          → share ≡ (winner_at words full j i).count * share_of primary stakes (winner_at words full j i).stake + min odd (winner_at words full j i).count
+      share_here odd e = e ∙ (λ k. counted k * share_of primary stakes (staked k) + min odd (counted k))
 
     -- the rounded shares of the first rows are within the primary
     pub whole_so_far : (i : ℕ) → i ≤ live → whole_shares primary stakes (winners_in words full j i) ≤ primary
     whole_so_far i h =
         let all : whole_shares primary stakes (winners_in words full j live) ≤ primary =
-        subst (λ s. whole_shares primary s (winners_in words full j live) ≤ primary) (sym won.total)
-        (whole_within primary (winners_in words full j live) (subst (λ s. 0 < s) won.total won.won)) in
+        subst (λ s. whole_shares primary s (winners_in words full j live) ≤ primary) (sym shared.total)
+        (whole_within primary (winners_in words full j live) (subst (λ s. 0 < s) shared.total some)) in
         omega (arith, all, figures_rise (λ w. w.count * share_of primary stakes w.stake) i live h)
 
     pub share_most : (i odd : ℕ) → i < live
@@ -222,62 +232,70 @@ module _ (words full : List ℕ) (j : ℕ) where
     share_most i odd h =
         omega (
           arith,
-          winners_few live won.entered i h,
-          ticket_within primary stakes won.won (winner_at words full j i).count (winner_at words full j i).stake (sharing_at i h).part,
+          winners_few live shared.entered i h,
+          ticket_within primary stakes some (winner_at words full j i).count (winner_at words full j i).stake (sharing_at i h).part,
         )
 
 -- ---- a jackpot's stakes, one row more
 
-pub no_stakes : (words full : List ℕ) (game j : ℕ) → stakes_of words full game j 0 ≡ record { jackpot = j; paid = 0; winning = 0 }
-no_stakes words full game j = λ k. record { jackpot = j; paid = stakes_none words game j k; winning = winning_none words full j k }
+pub no_stakes : (words full : List ℕ) (game : ℕ) (j : JackpotKind) → stakes_of words full game j 0 ≡ record { jackpot = j; paid = 0; winning = 0 }
+no_stakes words full game j = λ k. record { jackpot = j; paid = stakes_none words game (number_of j) k; winning = winning_none words full (number_of j) k }
 
-module _ (words full : List ℕ) (game j i own : ℕ) (s : Stakes) (held : s ≡ stakes_of words full game j i) (w : Row) (read : w ≡ row_at words i) (paid : own ≡ paid_at words game i) where
-  pub stakes_room : (live : ℕ) → Entered words full live → i < live
-      → (s.paid + own < 2 ^ 64) × (s.winning + get_or full i 0 * w.stake < 2 ^ 64)
-  stakes_room live entered h =
-      let stake : w.stake ≤ charge_limit = omega (arith, ap (λ (v : Row). v.stake) read, entered.stakes i h) in
-      let most : get_or full i 0 * w.stake ≤ 255 * charge_limit = mul-le-mul (entered.ways i h) stake in (
+-- from the row, the paid stakes and the full matches that were read
+module _ (words full : List ℕ) (game : ℕ) (j : JackpotKind) (i : ℕ) (s : Stakes) (held : s ≡ stakes_of words full game j i) {w : Row} (read : w ≡ row_at words i)
+    {own matches : ℕ} (paid : own ≡ paid_at words game i) (matched : matches ≡ get_or full i 0) where
+  module _ (live : ℕ) (entered : Entered words full live) (h : i < live) where
+    pub paid_room : s.paid + own < 2 ^ 64
+    paid_room =
         omega (
           arith,
           ap (λ r. r.paid) held,
           entered.few,
-          stakes_within words game full live entered j i (omega arith),
+          stakes_within words game full live entered (number_of j) i (omega arith),
           paid_at_within words game i (entered.within i h),
-        ),
-        omega (arith, ap (λ r. r.winning) held, entered.few, winning_within words full j live entered i (omega arith)),
-      )
+        )
+
+    pub winning_room : s.winning + matches * w.stake < 2 ^ 64
+    winning_room =
+        let few : matches ≤ 255 = omega (arith, matched, entered.ways i h) in
+        let stake : w.stake ≤ charge_limit = omega (arith, ap (λ (v : Row). v.stake) read, entered.stakes i h) in
+        let most : matches * w.stake ≤ 255 * charge_limit = mul-le-mul few stake in
+        omega (arith, ap (λ r. r.winning) held, entered.few, winning_within words full (number_of j) live entered i (omega arith))
 
   pub stakes_next : (r : Stakes) → r.jackpot ≡ s.jackpot
-      → r.paid ≡ s.paid + cond (eqb w.jackpot s.jackpot) own 0
-      → r.winning ≡ s.winning + winning_stake (winner_from w (get_or full i 0) s.jackpot)
+      → r.paid ≡ s.paid + cond (eqb w.jackpot (number_of s.jackpot)) own 0
+      → r.winning ≡ s.winning + winning_stake (winner_from w matches (number_of s.jackpot))
       → r ≡ stakes_of words full game j (i + 1)
   unfolding winner_at
   stakes_next r same more won =
       let number : s.jackpot ≡ j = ap (λ r. r.jackpot) held in
-      let paying : r.paid ≡ stakes_in words game j (i + 1) =
-      more ∙ (λ k. (held k).paid + cond (eqb (read k).jackpot (number k)) (paid k) 0) ∙ sym (stakes_more words game j i) in
-      let winning : r.winning ≡ winning_stakes (winners_in words full j (i + 1)) =
-      won ∙ (λ k. (held k).winning + winning_stake (winner_from (read k) (get_or full i 0) (number k))) ∙ sym (winning_more words full j i) in
+      let paying : r.paid ≡ stakes_in words game (number_of j) (i + 1) =
+      more ∙ (λ k. (held k).paid + cond (eqb (read k).jackpot (number_of (number k))) (paid k) 0) ∙ sym (stakes_more words game (number_of j) i) in
+      let winning : r.winning ≡ winning_stakes (winners_in words full (number_of j) (i + 1)) =
+      won ∙ (λ k. (held k).winning + winning_stake (winner_from (read k) (matched k) (number_of (number k)))) ∙ sym (winning_more words full (number_of j) i) in
       λ k. record { jackpot = (same ∙ number) k; paid = paying k; winning = winning k }
 
--- ---- one row's winning ways, from the row that was read
+-- ---- one row's winning ways, from the row and the place of the table that were read
 
-module _ (words full : List ℕ) (j i : ℕ) (w : Row) (read : w ≡ row_at words i) (count : ℕ) (counted : count ≡ (winner_from w (get_or full i 0) j).count) where
-  pub row_count : count ≡ (winner_at words full j i).count
-  unfolding winner_at
-  row_count = counted ∙ ap (λ v. (winner_from v (get_or full i 0) j).count) read
+module _ (words : List ℕ) (ways : List TicketWays) (i : ℕ) (inside : i < length ways) where
+  pub full_here : get_or (full_of ways) i 0 ≡ (get_or ways i no_ways).full
+  full_here = get_or_map (λ w. w.full) ways i no_ways 0 inside
 
-  row_stake : w.stake ≡ (winner_at words full j i).stake
-  unfolding winner_at
-  row_stake = ap (λ v. v.stake) read
+  module _ (j : ℕ) (w : Row) (read : w ≡ row_at words i) where
+    pub plays_count : w.jackpot ≡ j → (get_or ways i no_ways).full ≡ (winner_at words (full_of ways) j i).count
+    unfolding winner_at
+    plays_count plays =
+        sym full_here
+        ∙ sym (ap (λ (b : Bool). cond b (get_or (full_of ways) i 0) 0) (ap (λ (v : Row). eqb v.jackpot j) (sym read) ∙ eq-eqb w.jackpot j plays))
 
-  module _ (p s : ℕ) where
-    pub row_sharing : Sharing p s (winner_at words full j i).count (winner_at words full j i).stake → Sharing p s count w.stake
-    row_sharing h = subst⁻¹ (λ n. Sharing p s n w.stake) row_count (subst⁻¹ (Sharing p s (winner_at words full j i).count) row_stake h)
+    pub rests_count : (w.jackpot ≡ j → ⊥) → 0 ≡ (winner_at words (full_of ways) j i).count
+    unfolding winner_at
+    rests_count rests =
+        sym (ap (λ (b : Bool). cond b (get_or (full_of ways) i 0) 0) (ap (λ (v : Row). eqb v.jackpot j) (sym read) ∙ ne_eqb w.jackpot j rests))
 
-    pub row_share : (odd share : ℕ) → share ≡ count * share_of p s w.stake + min odd count
-        → share ≡ (winner_at words full j i).count * share_of p s (winner_at words full j i).stake + min odd (winner_at words full j i).count
-    row_share odd share e = e ∙ (λ k. row_count k * share_of p s (row_stake k) + min odd (row_count k))
+    pub stake_here : w.stake ≡ (winner_at words (full_of ways) j i).stake
+    unfolding winner_at
+    stake_here = ap (λ (v : Row). v.stake) read
 
 -- ---- shares joined to what is paid
 
@@ -317,8 +335,8 @@ module _ (words full : List ℕ) (j odd p s : ℕ) (ps : List ℕ) where
       ∙ ap (joined_to ps) (sym (shares_more odd p s (winners_in words full j i) (winner_at words full j i)))
       ∙ ap (λ ws. joined_to ps (shares_from odd p s ws)) (sym (winners_more words full j i))
 
-  pub given_all : (paid : List ℕ) (live : ℕ) → paid ≡ joined_to ps (given live) → take live paid ≡ zip_with ◌+◌ (take live ps) (given live)
-  given_all paid live e = joined_whole ps (given live) e (length_given live)
+  pub given_all : (paid : List ℕ) (live : ℕ) → paid ≡ joined_to ps (given live) → length ps ≡ live → paid ≡ zip_with ◌+◌ ps (given live)
+  given_all paid live e all = joined_whole ps (given live) e (length_given live) all
 
 -- ---- the primary, won or not
 
@@ -351,7 +369,7 @@ shares_if_not p xs ws none few = rw (not_won ws none) (sym (zeros_joined xs ws f
 -- ---- room for one game's contributions
 
 pub grown_roomy : (stakes : ℕ) (before grown : Jackpot) → grown ≡ contributed stakes before → stakes ≤ 200 * charge_limit
-    → (before.primary < 2 ^ 62) × (before.secondary < 2 ^ 62) × (before.reimbursement < 2 ^ 62) × (before.debt < 2 ^ 62)
+    → PoolsFit before
     → (grown.primary + 255 < 2 ^ 63) × Roomy grown
 unfolding contributed
 grown_roomy stakes before grown e few fits = subst⁻¹ (λ g. (g.primary + 255 < 2 ^ 63) × Roomy g) e (omega arith)
@@ -454,189 +472,176 @@ module _ (game j : ℕ) (draw : Draw) where
         go true s odd = shares_spread game j draw odd p s ts
         go false s odd = zeros_spread ts
 
--- ---- the rows of a reached house, with its full matches in a draw
+-- ---- the rows of a drawn game, with its full matches
 
-module _ {A : Type 0} where
-  table_same : (f g : ℕ → A) (n : ℕ) → ((i : ℕ) → i < n → f i ≡ g i) → map f (below n) ≡ map g (below n)
-  unfolding below
-  table_same f g zero same = refl
-  table_same f g (suc n) same =
-      map-append f (below n) (n ∷ [])
-      ∙ cc (table_same f g n (λ i h. same i (omega arith)), same n (omega arith))
-      ∙ sym (map-append g (below n) (n ∷ []))
+pub matched_count : (g : DrawnGame) (ways : List TicketWays) → Matched g ways → length ways ≡ g.live
+matched_count g ways matches =
+    sym (length-map ways (λ w. w.full)) ∙ ap length matches ∙ length_spread g.game _ (drawn_tickets g)
+    ∙ length_table (ticket_in g.rows.now g.marks.now) g.live
 
-module _
-    (h : House) (words full marks : List ℕ) (draw : Draw)
-    (reached : Reached (view h words marks))
-    (matches : take h.live full ≡ spread h.game (full_in h.game draw (view h words marks).live) (view h words marks).live)
-  where
-    abbrev live : List Ticket
-    live = (view h words marks).live
+module _ (g : DrawnGame) (full : List ℕ) (matches : full ≡ spread g.game (full_in g.game g.draw (drawn_tickets g)) (drawn_tickets g)) where
+  abbrev words : List ℕ
+  words = g.rows.now
 
-    abbrev ticket : ℕ → Ticket
-    ticket = ticket_in words marks
+  abbrev live : List Ticket
+  live = drawn_tickets g
 
-    live_few : h.live ≤ 200
-    unfolding view
-    live_few = omega (arith, length_table ticket h.live, (reached_sure (view h words marks) reached).few)
+  abbrev ticket : ℕ → Ticket
+  ticket = ticket_in g.rows.now g.marks.now
 
-    kept_at : (i : ℕ) → i < h.live → Kept h.game (ticket i)
-    unfolding view
-    kept_at = each_live h words marks (Kept h.game) (reached_sure (view h words marks) reached).kept
+  full_at : (i : ℕ) → i < g.live
+      → get_or full i 0 ≡ cond (runs_in g.game (ticket i)) (full_matches g.draw (entry_of g.game (ticket i))) 0
+  unfolding full_in
+  full_at i b =
+      ap (λ l. get_or l i 0) (matches ∙ spread_entries g.game (full_matches g.draw) live)
+      ∙ ap (λ l. get_or l i 0) (map-map (λ t. cond (runs_in g.game t) (full_matches g.draw (entry_of g.game t)) 0) ticket (below g.live))
+      ∙ get_or_table (λ k. cond (runs_in g.game (ticket k)) (full_matches g.draw (entry_of g.game (ticket k))) 0) g.live i 0 b
 
-    full_at : (i : ℕ) → i < h.live
-        → get_or full i 0 ≡ cond (runs_in h.game (ticket i)) (full_matches draw (entry_of h.game (ticket i))) 0
-    unfolding view full_in
-    full_at i b =
-        sym (get_or-take h.live full i 0 b)
-        ∙ ap (λ l. get_or l i 0) (matches ∙ spread_entries h.game (full_matches draw) live)
-        ∙ ap (λ l. get_or l i 0) (map-map (λ t. cond (runs_in h.game t) (full_matches draw (entry_of h.game t)) 0) ticket (below h.live))
-        ∙ get_or_table (λ k. cond (runs_in h.game (ticket k)) (full_matches draw (entry_of h.game (ticket k))) 0) h.live i 0 b
+  full_few : (i : ℕ) → i < g.live → get_or full i 0 ≤ 255
+  unfolding full_by
+  full_few i b = rw (full_at i b) (go (runs_in g.game (ticket i)))
+    where
+      go : (b : Bool) → cond b (full_matches g.draw (entry_of g.game (ticket i))) 0 ≤ 255
+      go true =
+          omega (
+            arith,
+            length_keep_le (λ m. eqb (mask_sum m (hits g.draw (ticket i).operands.marks)) (mask_sum m (sizes (ticket i).operands.marks))) (ways (ticket i).operands.groups (ticket i).operands.types),
+            ways_few (ticket i).operands.types (g.sold.each i b).playable.groups,
+          )
+      go false = omega arith
 
-    full_few : (i : ℕ) → i < h.live → get_or full i 0 ≤ 255
-    unfolding full_by
-    full_few i b = rw (full_at i b) (go (runs_in h.game (ticket i)))
+  -- a ticket's price of a game is that of its operands
+  price_sold : (t : Ticket) → Sold t → ticket_price t ≡ price_of t.operands
+  price_sold t sold = ap (λ n. game_price t.operands.stake n (feature_stake t.operands.feature)) sold.counted
+
+  pub entered : Entered g.rows.now full g.live
+  entered =
+      record {
+        few = g.sold.few;
+        within = λ i b.
+            let sold = g.sold.each i b in
+            record { within = omega (arith, price_sold (ticket i) sold, sold.playable.one_game) };
+        stakes = λ i b. (g.sold.each i b).playable.stake;
+        ways = full_few;
+      }
+
+  module _ (j : ℕ) where
+    -- the paid stakes of the rows are those of the entries
+    stakes_at_lem : (i : ℕ) → i < g.live
+        → stakes_at words g.game j i
+        ≡ cond (runs_in g.game (ticket i)) (cond (plays_for j (entry_of g.game (ticket i))) (paid_stakes g.game (g.game + 1) (ticket i)) 0) 0
+    unfolding stakes_at paid_at runs_in paid_stakes
+    stakes_at_lem i b = rw (← (g.sold.each i b).playing) (go (eqb (ticket i).jackpot j) (runs_in g.game (ticket i)) (paid_stakes g.game (g.game + 1) (ticket i)))
       where
-        go : (b : Bool) → cond b (full_matches draw (entry_of h.game (ticket i))) 0 ≤ 255
-        go true =
-            omega (
-              arith,
-              length_keep_le (λ m. eqb (mask_sum m (hits draw (ticket i).operands.marks)) (mask_sum m (sizes (ticket i).operands.marks))) (ways (ticket i).operands.groups (ticket i).operands.types),
-              ways_few (ticket i).operands.types (kept_at i b).fixed.playable.groups,
-            )
-        go false = omega arith
+        go : (plays runs : Bool) (n : ℕ) → cond plays (cond runs n 0) 0 ≡ cond runs (cond plays n 0) 0
+        go true true n = refl
+        go true false n = refl
+        go false true n = refl
+        go false false n = refl
 
-    pub entered : Entered words full h.live
-    entered =
-        record {
-          few = live_few;
-          within = λ i b.
-              let kept = kept_at i b in
-              record { within = omega (arith, price_kept (ticket i) kept, kept.fixed.playable.one_game) };
-          stakes = λ i b. (kept_at i b).fixed.playable.stake;
-          ways = full_few;
-        }
+    pub stakes_view : stakes_in words g.game j g.live ≡ paid_for j (entries_of g.game live)
+    unfolding stakes_in paid_for
+    stakes_view =
+        ap sum (tables_alike (stakes_at words g.game j) (λ i. stakes_of (ticket i)) g.live stakes_at_lem)
+        ∙ ap sum (sym (map-map stakes_of ticket (below g.live)))
+        ∙ running_sum g.game (λ e. cond (plays_for j e) e.paid 0) live
+      where
+        stakes_of : Ticket → ℕ
+        stakes_of t = cond (runs_in g.game t) (cond (plays_for j (entry_of g.game t)) (paid_stakes g.game (g.game + 1) t) 0) 0
 
-    module _ (j : ℕ) where
-      -- the paid stakes of the rows are those of the entries
-      stakes_at_lem : (i : ℕ) → i < h.live
-          → stakes_at words h.game j i
-          ≡ cond (runs_in h.game (ticket i)) (cond (plays_for j (entry_of h.game (ticket i))) (paid_stakes h.game (h.game + 1) (ticket i)) 0) 0
-      unfolding stakes_at paid_at runs_in paid_stakes
-      stakes_at_lem i b = rw (← (kept_at i b).fixed.playing) (go (eqb (ticket i).jackpot j) (runs_in h.game (ticket i)) (paid_stakes h.game (h.game + 1) (ticket i)))
-        where
-          go : (plays runs : Bool) (n : ℕ) → cond plays (cond runs n 0) 0 ≡ cond runs (cond plays n 0) 0
-          go true true n = refl
-          go true false n = refl
-          go false true n = refl
-          go false false n = refl
+    -- and so are the winning ways
+    winner_at_lem : (i : ℕ) → i < g.live → winner_at words full j i ≡ winner_in g.game j g.draw (ticket i)
+    unfolding winner_at winner_of
+    winner_at_lem i b =
+        ap (λ n. winner n)
+        (rw (full_at i b, ← (g.sold.each i b).playing) (go (eqb (ticket i).jackpot j) (runs_in g.game (ticket i)) (full_matches g.draw (entry_of g.game (ticket i)))))
+      where
+        winner : ℕ → Winner
+        winner n = record { count = n; stake = (ticket i).operands.stake }
 
-      pub stakes_view : stakes_in words h.game j h.live ≡ paid_for j (entries_of h.game live)
-      unfolding stakes_in paid_for view
-      stakes_view =
-          ap sum (table_same (stakes_at words h.game j) (λ i. stakes_of (ticket i)) h.live stakes_at_lem)
-          ∙ ap sum (sym (map-map stakes_of ticket (below h.live)))
-          ∙ running_sum h.game (λ e. cond (plays_for j e) e.paid 0) live
-        where
-          stakes_of : Ticket → ℕ
-          stakes_of t = cond (runs_in h.game t) (cond (plays_for j (entry_of h.game t)) (paid_stakes h.game (h.game + 1) t) 0) 0
+        go : (plays runs : Bool) (n : ℕ) → cond plays (cond runs n 0) 0 ≡ cond runs (cond plays n 0) 0
+        go true true n = refl
+        go true false n = refl
+        go false true n = refl
+        go false false n = refl
 
-      -- and so are the winning ways
-      winner_at_lem : (i : ℕ) → i < h.live → winner_at words full j i ≡ winner_in h.game j draw (ticket i)
-      unfolding winner_at winner_of
-      winner_at_lem i b =
-          ap (λ n. winner n)
-          (rw (full_at i b, ← (kept_at i b).fixed.playing) (go (eqb (ticket i).jackpot j) (runs_in h.game (ticket i)) (full_matches draw (entry_of h.game (ticket i)))))
-        where
-          winner : ℕ → Winner
-          winner n = record { count = n; stake = (ticket i).operands.stake }
+    winners_view : winners_in words full j g.live ≡ map (winner_in g.game j g.draw) live
+    unfolding winners_in
+    winners_view =
+        tables_alike (winner_at words full j) (λ i. winner_in g.game j g.draw (ticket i)) g.live winner_at_lem
+        ∙ sym (map-map (winner_in g.game j g.draw) ticket (below g.live))
 
-          go : (plays runs : Bool) (n : ℕ) → cond plays (cond runs n 0) 0 ≡ cond runs (cond plays n 0) 0
-          go true true n = refl
-          go true false n = refl
-          go false true n = refl
-          go false false n = refl
+    pub winning_view : winning_stakes (winners_in words full j g.live) ≡ winning_stakes (winners_of g.game j g.draw live)
+    winning_view = ap winning_stakes winners_view ∙ winning_same g.game j g.draw live
 
-      winners_view : winners_in words full j h.live ≡ map (winner_in h.game j draw) live
-      unfolding winners_in view
-      winners_view =
-          table_same (winner_at words full j) (λ i. winner_in h.game j draw (ticket i)) h.live winner_at_lem
-          ∙ sym (map-map (winner_in h.game j draw) ticket (below h.live))
+    pub shares_view : (p : ℕ) → jackpot_shares p (winners_in words full j g.live) ≡ spread g.game (jackpot_shares p (winners_of g.game j g.draw live)) live
+    shares_view p = ap (jackpot_shares p) winners_view ∙ jackpot_shares_spread g.game j g.draw live p
 
-      pub winning_view : winning_stakes (winners_in words full j h.live) ≡ winning_stakes (winners_of h.game j draw live)
-      winning_view = ap winning_stakes winners_view ∙ winning_same h.game j draw live
+    -- ---- the part of the game, from what the walks find
 
-      pub shares_view : (p : ℕ) → jackpot_shares p (winners_in words full j h.live) ≡ spread h.game (jackpot_shares p (winners_of h.game j draw live)) live
-      shares_view p = ap (jackpot_shares p) winners_view ∙ jackpot_shares_spread h.game j draw live p
+    module _
+        (before grown next : Jackpot) (paid paid' : List ℕ) (r : Part) (stakes winning guarantee : ℕ)
+        (staking : stakes ≡ stakes_in words g.game j g.live)
+        (winners : winning ≡ winning_stakes (winners_in words full j g.live))
+        (grows : grown ≡ contributed stakes before)
+        (guaranteed : guarantee ≡ guarantee_of j)
+        (seeded : next ≡ reseeded (ltb 0 winning) guarantee grown)
+      where
+        abbrev entries : List Entry
+        entries = entries_of g.game live
 
-      -- ---- the part of the game, from what the walks find
+        won_view : ltb 0 winning ≡ jackpot_won (winners_of g.game j g.draw live)
+        unfolding jackpot_won
+        won_view = ap (ltb 0) (winners ∙ winning_view)
 
-      module _
-          (before grown next : Jackpot) (paid paid' : List ℕ) (r : Part) (stakes winning guarantee : ℕ)
-          (staking : stakes ≡ stakes_in words h.game j h.live)
-          (winners : winning ≡ winning_stakes (winners_in words full j h.live))
-          (grows : grown ≡ contributed stakes before)
-          (guaranteed : guarantee ≡ guarantee_of j)
-          (seeded : next ≡ reseeded (ltb 0 winning) guarantee grown)
-        where
-          abbrev entries : List Entry
-          entries = entries_of h.game live
+        grown_view : grown ≡ contributed (paid_for j entries) before
+        grown_view = grows ∙ ap (λ n. contributed n before) (staking ∙ stakes_view)
 
-          won_view : ltb 0 winning ≡ jackpot_won (winners_of h.game j draw live)
-          unfolding jackpot_won
-          won_view = ap (ltb 0) (winners ∙ winning_view)
+        next_view : next ≡ reseeded (jackpot_won (winners_of g.game j g.draw live)) (guarantee_of j) (contributed (paid_for j entries) before)
+        next_view =
+            seeded
+            ∙ (λ i. reseeded (won_view i) (guaranteed i) (grown_view i))
 
-          grown_view : grown ≡ contributed (paid_for j entries) before
-          grown_view = grows ∙ ap (λ n. contributed n before) (staking ∙ stakes_view)
+        shares_here : jackpot_shares grown.primary (winners_in words full j g.live) ≡ spread g.game (jackpot_shares grown.primary (winners_of g.game j g.draw live)) live
+        shares_here = shares_view grown.primary
 
-          next_view : next ≡ reseeded (jackpot_won (winners_of h.game j draw live)) (guarantee_of j) (contributed (paid_for j entries) before)
-          next_view =
-              seeded
-              ∙ (λ i. reseeded (won_view i) (guaranteed i) (grown_view i))
+        joined_view :
+            paid' ≡ zip_with ◌+◌ paid (jackpot_shares grown.primary (winners_in words full j g.live))
+            → (figures : List ℕ) → length figures ≡ length entries
+            → paid ≡ spread g.game figures live
+            → paid' ≡ spread g.game (zip_with ◌+◌ figures (jackpot_shares grown.primary (winners_of g.game j g.draw live))) live
+        joined_view joined figures one e =
+            let shares : List ℕ = jackpot_shares grown.primary (winners_of g.game j g.draw live) in
+            let same : length figures ≡ length shares =
+            one ∙ sym (length_shares grown.primary (winners_of g.game j g.draw live) ∙ length-map entries (winner_of j g.draw)) in
+            joined
+            ∙ ap (λ l. zip_with ◌+◌ l (jackpot_shares grown.primary (winners_in words full j g.live))) e
+            ∙ ap (zip_with ◌+◌ (spread g.game figures live)) shares_here
+            ∙ sym (spread_added g.game figures shares live same)
 
-          shares_here : jackpot_shares grown.primary (winners_in words full j h.live) ≡ spread h.game (jackpot_shares grown.primary (winners_of h.game j draw live)) live
-          shares_here = shares_view grown.primary
+        sum_view : sum (jackpot_shares grown.primary (winners_in words full j g.live)) ≡ sum (jackpot_shares grown.primary (winners_of g.game j g.draw live))
+        sum_view =
+            ap sum shares_here
+            ∙ sum_spread g.game (jackpot_shares grown.primary (winners_of g.game j g.draw live)) live
+            (length_shares grown.primary (winners_of g.game j g.draw live) ∙ length-map entries (winner_of j g.draw) ∙ length-map (keep (runs_in g.game) live) (entry_of g.game))
 
-          joined_view :
-              take h.live paid' ≡ zip_with ◌+◌ (take h.live paid) (jackpot_shares grown.primary (winners_in words full j h.live))
-              → (figures : List ℕ) → length figures ≡ length entries
-              → take (length live) paid ≡ spread h.game figures live
-              → take (length live) paid' ≡ spread h.game (zip_with ◌+◌ figures (jackpot_shares grown.primary (winners_of h.game j draw live))) live
-          unfolding view
-          joined_view joined figures one e =
-              let count : length live ≡ h.live = length_table ticket h.live in
-              let shares : List ℕ = jackpot_shares grown.primary (winners_of h.game j draw live) in
-              let same : length figures ≡ length shares =
-              one ∙ sym (length_shares grown.primary (winners_of h.game j draw live) ∙ length-map entries (winner_of j draw)) in
-              ap (λ n. take n paid') count
-              ∙ joined
-              ∙ ap (λ l. zip_with ◌+◌ l (jackpot_shares grown.primary (winners_in words full j h.live))) (ap (λ n. take n paid) (sym count) ∙ e)
-              ∙ ap (zip_with ◌+◌ (spread h.game figures live)) shares_here
-              ∙ sym (spread_added h.game figures shares live same)
-
-          sum_view : sum (jackpot_shares grown.primary (winners_in words full j h.live)) ≡ sum (jackpot_shares grown.primary (winners_of h.game j draw live))
-          sum_view =
-              ap sum shares_here
-              ∙ sum_spread h.game (jackpot_shares grown.primary (winners_of h.game j draw live)) live
-              (length_shares grown.primary (winners_of h.game j draw live) ∙ length-map entries (winner_of j draw) ∙ length-map (keep (runs_in h.game) live) (entry_of h.game))
-
-          pub shared_out :
-              r.after ≡ repaid next
-              → r.shares ≡ sum (jackpot_shares grown.primary (winners_in words full j h.live))
-              → r.contributions ≡ 25 * (stakes / 100)
-              → r.seed ≡ seed_of (ltb 0 winning) guarantee grown
-              → r.repaid ≡ repaid_of next
-              → take h.live paid' ≡ zip_with ◌+◌ (take h.live paid) (jackpot_shares grown.primary (winners_in words full j h.live))
-              → SharedOut (view h words marks) j draw before paid paid' r
-          unfolding view settle_jackpot contribution
-          shared_out after shares contributions seed back joined =
-              record {
-                after = after ∙ ap repaid next_view;
-                shares = shares ∙ sum_view ∙ ap (λ g. sum (jackpot_shares g.primary (winners_of h.game j draw live))) grown_view;
-                contributions = contributions ∙ ap (λ n. 25 * (n / 100)) (staking ∙ stakes_view);
-                seed = seed ∙ (λ i. seed_of (won_view i) (guaranteed i) (grown_view i));
-                repaid = back ∙ ap (λ n. repaid_of n) next_view;
-                joined = λ figures one e.
-                    joined_view joined figures one e
-                    ∙ ap (λ g. spread h.game (zip_with ◌+◌ figures (jackpot_shares g.primary (winners_of h.game j draw live))) live) grown_view;
-              }
+        pub shared_out :
+            r.after ≡ repaid next
+            → r.shares ≡ sum (jackpot_shares grown.primary (winners_in words full j g.live))
+            → r.contributions ≡ 25 * (stakes / 100)
+            → r.seed ≡ seed_of (ltb 0 winning) guarantee grown
+            → r.repaid ≡ repaid_of next
+            → paid' ≡ zip_with ◌+◌ paid (jackpot_shares grown.primary (winners_in words full j g.live))
+            → SharedOut g j before paid paid' r
+        unfolding settle_jackpot contribution
+        shared_out after shares contributions seed back joined =
+            record {
+              after = after ∙ ap repaid next_view;
+              shares = shares ∙ sum_view ∙ ap (λ (p : Jackpot). sum (jackpot_shares p.primary (winners_of g.game j g.draw live))) grown_view;
+              contributions = contributions ∙ ap (λ n. 25 * (n / 100)) (staking ∙ stakes_view);
+              seed = seed ∙ (λ i. seed_of (won_view i) (guaranteed i) (grown_view i));
+              repaid = back ∙ ap (λ n. repaid_of n) next_view;
+              joined = λ figures one e.
+                  joined_view joined figures one e
+                  ∙ ap (λ (p : Jackpot). spread g.game (zip_with ◌+◌ figures (jackpot_shares p.primary (winners_of g.game j g.draw live))) live) grown_view;
+            }

@@ -1,19 +1,17 @@
 -- Laws of tables: a table by its places, a ticket's part of the marks, the sum of its first figures, and a table whose first places hold figures spread over tickets.
 use Prim.Native.Nat.{ℕ, zero, suc, ◌+◌, ◌*◌, ◌-◌, ◌≤◌, ◌<◌}
-use mathlib.Core.Path.{◌≡◌, refl, sym, ap, ap₂, ◌∙◌, subst}
+use mathlib.Core.Path.{◌≡◌, refl, sym, ap, ap₂, ◌∙◌}
 use mathlib.Core.List.{List, [], ◌∷◌, ◌++◌, map, map-append}
-use native.Mathlib.Nat.{add-zero}
 use native.Mathlib.Numerals.{add-one}
 use native.Mathlib.Omega.{arith}
-use lib.ListN.{length, get_or, take, drop, length-take, take-append-drop}
-use lib.Seq.{ext_get_or, get_or-take, take-take, take-suc, length-take-le}
+use lib.ListN.{length, get_or, take, drop}
+use lib.Seq.{ext_get_or, get_or-take, length-take-le}
 use Rattle.sale.specs.Lists.{sum, below, keep}
 use Rattle.house.specs.Tickets.{Ticket, runs_in}
 use Rattle.house.specs.View.{marks_at}
 use Rattle.settlement.specs.Settling.{spread}
-use Rattle.house.proofs.MoneyLaws.{sum_append}
 use Rattle.house.proofs.RowLists.{length_table, get_or_table}
-use Rattle.settlement.proofs.SpreadLaws.{length_spread, sum_spread}
+use Rattle.settlement.proofs.SpreadLaws.{sum_spread}
 
 -- ---- tables by place
 
@@ -54,27 +52,10 @@ place_within [] i = omega arith
 place_within (x ∷ xs) zero = omega arith
 place_within (x ∷ xs) (suc i) = omega (arith, place_within xs i)
 
-part_within : (i : ℕ) (l : List ℕ) → sum (take i l) ≤ sum l
-part_within i l = omega (arith, ap sum (take-append-drop i l), sum_append (take i l) (drop i l))
+-- a table of spread figures
+module _ (game : ℕ) (table figures : List ℕ) (ts : List Ticket) (held : table ≡ spread game figures ts) (count : length figures ≡ length (keep (runs_in game) ts)) where
+  pub spread_total : sum table ≡ sum figures
+  spread_total = ap sum held ∙ sum_spread game figures ts count
 
-pub sum_take_more : (l : List ℕ) (i : ℕ) → i < length l → sum (take (i + 1) l) ≡ sum (take i l) + get_or l i 0
-unfolding sum
-sum_take_more l i h =
-    ap (λ k. sum (take k l)) (add-one i) ∙ ap sum (take-suc l i 0 h) ∙ sum_append (take i l) (get_or l i 0 ∷ [])
-    ∙ ap (λ n. sum (take i l) + n) (add-zero (get_or l i 0))
-
-pub sum_take_within : (l : List ℕ) (i n : ℕ) → i ≤ n → sum (take i l) ≤ sum (take n l)
-sum_take_within l i n h = subst (λ xs. sum xs ≤ sum (take n l)) (take-take i n l h) (part_within i (take n l))
-
--- a table whose first places hold spread figures
-module _ (game : ℕ) (table figures : List ℕ) (ts : List Ticket) (held : take (length ts) table ≡ spread game figures ts) where
-  pub spread_fills : length ts ≤ length table
-  spread_fills = omega (arith, length-take (length ts) table, ap length held, length_spread game figures ts)
-
-  module _ (count : length figures ≡ length (keep (runs_in game) ts)) where
-    pub spread_total : sum (take (length ts) table) ≡ sum figures
-    spread_total = ap sum held ∙ sum_spread game figures ts count
-
-    pub spread_within : (i : ℕ) → i < length ts → get_or table i 0 ≤ sum figures
-    spread_within i b =
-        omega (arith, get_or-take (length ts) table i 0 b, place_within (take (length ts) table) i, spread_total)
+  pub spread_within : (i : ℕ) → i < length ts → get_or table i 0 ≤ sum figures
+  spread_within i b = omega (arith, place_within table i, spread_total)

@@ -1,3 +1,6 @@
+pub mod Kinds
 pub mod Settling
 pub mod Passing
 pub mod Sharing
+pub mod Drawn
+pub mod Sharers

@@ -1,8 +1,8 @@
 -- The parts of a game's settlement as the code goes through them, ticket by ticket over the live ones. Each figure of a settled game (the rule book's
 -- `settle`) is a list over the entries, which are the tickets that run in the game; here it is spread over all live tickets, 0 for the others.
 use Rattle.std.specs.Prelude.{ℕ, ◌+◌, ◌<◌, ◌^◌, ◌≡◌, cond, length, take, eqb}
-use mathlib.Core.List.{List, [], ◌∷◌, map, zip_with}
-use Rattle.sale.specs.Lists.{sum, keep}
+use mathlib.Core.List.{List, [], ◌∷◌, map}
+use Rattle.sale.specs.Lists.{keep}
 use Rattle.sale.specs.Checks.{feature_stake}
 use Rattle.prizes.specs.LuckyLast.{lucky_last_prize}
 use Rattle.prizes.specs.Settle.{Entry, JackpotResult, way_prizes, majors_of, prizes_of, all_prizes_of, full_matches, settle_jackpot}
@@ -12,9 +12,6 @@ use Rattle.house.specs.Tickets.{Ticket, runs_in, entry_of}
 use Rattle.house.specs.Model.{Model}
 use Rattle.house.specs.Commands.{settled_by, stakes_drawn}
 use Rattle.house.specs.Balance.{Reached}
-use Rattle.house.specs.View.{view}
-use Rattle.house.specs.declared.state.House.{House}
-use Rattle.settlement.specs.declared.shares.Part.{Part}
 use Rattle.settlement.specs.declared.settle.Settlement.{Settlement}
 use Rattle.prizes.specs.declared.jackpot.Jackpot.{Jackpot}
 
@@ -56,28 +53,9 @@ full_in game draw ts = map (full_matches draw) (entries_of game ts)
 abbrev pub guarantee_of : ℕ → ℕ
 guarantee_of j = cond (eqb j 6) guarantee_of_six guarantee_of_eight
 
--- one jackpot's part in the game of a house, by its number
-abbrev pub jackpot_part : ℕ → Draw → Jackpot → Model → JackpotResult
-jackpot_part j draw before m = settle_jackpot j (guarantee_of j) draw before (entries_of m.game m.live)
-
--- the prizes of the ways, as the code leaves them in the first `live` places of a table, and the full matches in another
-pub record PaidOut (m : Model) (draw : Draw) (paid full : List ℕ) : Type 0 where
-  pub payouts : take (length m.live) paid ≡ spread m.game (payouts_in m.game draw m.live) m.live
-  pub matches : take (length m.live) full ≡ spread m.game (full_in m.game draw m.live) m.live
-
--- the same once the feature prizes are joined to them
-pub record Prized (m : Model) (draw : Draw) (paid full : List ℕ) : Type 0 where
-  pub prizes : take (length m.live) paid ≡ spread m.game (prizes_in m.game draw m.live) m.live
-  pub matches : take (length m.live) full ≡ spread m.game (full_in m.game draw m.live) m.live
-
--- what the sharing of a jackpot asks: a reached house, and its full matches in some draw
-pub record Matched (h : House) (words full : List ℕ) : Type 0 where
-  pub marks : List ℕ
-  pub draw : Draw
-  pub reached : Reached (view h words marks)
-  pub matches :
-      take h.live full
-      ≡ spread h.game (full_in h.game draw (view h words marks).live) (view h words marks).live
+-- one jackpot's part in the game of some live tickets, by its number
+abbrev pub jackpot_part : ℕ → ℕ → Draw → Jackpot → List Ticket → JackpotResult
+jackpot_part j game draw before ts = settle_jackpot j (guarantee_of j) draw before (entries_of game ts)
 
 -- a reached house, and a draw that awards no more than fits beside what is owed
 pub record Settleable (m : Model) (draw : Draw) : Type 0 where
@@ -95,15 +73,3 @@ pub record SettledAs (m : Model) (draw : Draw) (table : List ℕ) (r : Settlemen
   pub repaid : r.six.repaid + r.eight.repaid ≡ (settled_by draw m).repaid
   pub six : r.six.after ≡ (settled_by draw m).six
   pub eight : r.eight.after ≡ (settled_by draw m).eight
-
--- a jackpot shared: its part of the game, and its shares joined to what each ticket is paid
-pub record SharedOut (m : Model) (j : ℕ) (draw : Draw) (before : Jackpot) (paid paid' : List ℕ) (r : Part) : Type 0 where
-  pub after : r.after ≡ (jackpot_part j draw before m).after
-  pub shares : r.shares ≡ sum (jackpot_part j draw before m).shares
-  pub contributions : r.contributions ≡ (jackpot_part j draw before m).contributions
-  pub seed : r.seed ≡ (jackpot_part j draw before m).seed
-  pub repaid : r.repaid ≡ (jackpot_part j draw before m).repaid
-  pub joined :
-      (figures : List ℕ) → length figures ≡ length (entries_of m.game m.live)
-      → take (length m.live) paid ≡ spread m.game figures m.live
-      → take (length m.live) paid' ≡ spread m.game (zip_with ◌+◌ figures (jackpot_part j draw before m).shares) m.live

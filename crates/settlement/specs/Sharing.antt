@@ -1,12 +1,15 @@
 -- The live rows as the code walks over them to find a game's stakes and to share its jackpots: what each row of words says of its ticket, in the
 -- order of the rows. A ticket that does not run in the game has no full match, so that its row has a place here and wins nothing.
-use Rattle.std.specs.Prelude.{ℕ, ◌+◌, ◌≤◌, ◌<◌, ◌^◌, ◌≡◌, cond, List, [], map, eqb, take, get_or}
+use Rattle.std.specs.Prelude.{ℕ, ◌+◌, ◌≤◌, ◌<◌, ◌^◌, ◌≡◌, cond, List, [], map, eqb, get_or}
 use Rattle.sale.specs.Lists.{sum, below}
 use Rattle.sale.specs.Price.{charge_limit}
 use Rattle.prizes.specs.Jackpots.{Winner, winning_stakes}
 use Rattle.house.specs.Tickets.{runs_in, paid_stakes}
 use Rattle.house.specs.View.{row_at, ticket_in, Affordable}
 use Rattle.house.specs.declared.rows.Row.{Row}
+use Rattle.settlement.specs.Kinds.{number_of}
+use Rattle.settlement.specs.declared.jackpot_kind.JackpotKind.{JackpotKind}
+use Rattle.settlement.specs.declared.jackpot_kind.JackpotKind.TheVariants.{Six, Eight}
 use Rattle.settlement.specs.declared.figures.Stakes.{Stakes}
 use Rattle.settlement.specs.declared.figures.GameFigures.{GameFigures}
 
@@ -37,14 +40,14 @@ unfoldable pub winners_in : List ℕ → List ℕ → ℕ → ℕ → List Winne
 winners_in words full j live = map (winner_at words full j) (below live)
 
 -- a jackpot's stakes among the first rows
-abbrev pub stakes_of : List ℕ → List ℕ → ℕ → ℕ → ℕ → Stakes
+abbrev pub stakes_of : List ℕ → List ℕ → ℕ → JackpotKind → ℕ → Stakes
 stakes_of words full game j live =
-    record { jackpot = j; paid = stakes_in words game j live; winning = winning_stakes (winners_in words full j live) }
+    record { jackpot = j; paid = stakes_in words game (number_of j) live; winning = winning_stakes (winners_in words full (number_of j) live) }
 
--- what the first rows tell of a game, with its prizes and full matches in two tables
+-- what they tell of a game, with their prizes and full matches in two tables
 abbrev pub figures_of : List ℕ → List ℕ → List ℕ → ℕ → ℕ → GameFigures
 figures_of words paid full game live =
-    record { prizes = sum (take live paid); stakes = paid_in words game live; six = stakes_of words full game 6 live; eight = stakes_of words full game 8 live }
+    record { prizes = sum paid; stakes = paid_in words game live; six = stakes_of words full game Six live; eight = stakes_of words full game Eight live }
 
 -- rows whose price of a game is within the most that a ticket can cost, with at most 255 full matches each
 pub record Entered (words full : List ℕ) (live : ℕ) : Type 0 where
@@ -53,9 +56,8 @@ pub record Entered (words full : List ℕ) (live : ℕ) : Type 0 where
   pub stakes : (i : ℕ) → i < live → (row_at words i).stake ≤ charge_limit
   pub ways : (i : ℕ) → i < live → get_or full i 0 ≤ 255
 
--- a primary that they share by their stakes, with room for the odd cents beside it
+-- what they share by their stakes, with room for the odd cents beside it
 pub record Shareable (words full : List ℕ) (j live primary stakes : ℕ) : Type 0 where
   pub entered : Entered words full live
   pub total : stakes ≡ winning_stakes (winners_in words full j live)
-  pub won : 0 < stakes
   pub pool : primary + 255 < 2 ^ 63

@@ -1,19 +1,55 @@
-// What the live rows tell of a drawn game once its prizes are found, in one pass over them: the prizes together, the paid stakes, and those of
-// each jackpot.
-ghost use Rattle.std.specs.Prelude.{◌≡◌, cond, ◌+◌, ◌*◌, ◌≤◌, ◌<◌, ◌^◌, eqb, length, take, get_or};
-ghost use Rattle.sale.specs.Lists.{sum};
+// What is told of a drawn game once its prizes are found: the prizes together, and, in one pass over the live rows, the paid stakes and those of each
+// jackpot.
+ghost use Rattle.std.specs.Prelude.{◌≡◌, cond, ◌+◌, ◌*◌, ◌<◌, ◌^◌, eqb, sum};
 ghost use Rattle.prizes.specs.Jackpots.{winning_stake};
-ghost use Rattle.settlement.specs.Sharing.{winner_from, figures_of, Entered};
+ghost use Rattle.settlement.specs.Passing.{full_of};
+ghost use Rattle.settlement.specs.Kinds.{number_of};
+ghost use Rattle.settlement.specs.Sharing.{winner_from, figures_of, stakes_of};
+ghost use Rattle.settlement.specs.Drawn.{Matched};
 
-use house::rows::{Row, read_row};
+use crate::drawn_game::DrawnGame;
+use crate::jackpot_kind::JackpotKind;
+use crate::ways::TicketWays;
+use house::rows::Row;
 use house::ticket::paid_for;
 
 // Of the tickets that play for a jackpot: what they paid for the game, and the stakes of their ways that match in full.
 #[derive(Clone, Copy)]
 pub struct Stakes {
-    pub jackpot: u64,
+    pub jackpot: JackpotKind,
     pub paid: u64,
     pub winning: u64,
+}
+
+impl Stakes {
+    // Of no ticket.
+    fn none(jackpot: JackpotKind) -> Stakes
+        ensures { result ≡ record { jackpot = jackpot; paid = 0; winning = 0 } }
+    {
+        Stakes {
+            jackpot,
+            paid: 0,
+            winning: 0,
+        }
+    }
+
+    // With those of a ticket, which paid so much for the game and has so many full matches: the same where it does not play for the jackpot.
+    fn with_ticket(self, row: Row, paid: u64, full: u64) -> Stakes
+        requires paid { self.paid + paid < 2 ^ 64 }
+        requires winning { self.winning + full * row.stake < 2 ^ 64 }
+        ensures same { result.jackpot ≡ self.jackpot }
+        ensures paid { result.paid ≡ self.paid + cond (eqb row.jackpot (number_of self.jackpot)) paid 0 }
+        ensures winning { result.winning ≡ self.winning + winning_stake (winner_from row full (number_of self.jackpot)) }
+    {
+        if row.jackpot != self.jackpot.number() {
+            return self;
+        }
+        Stakes {
+            jackpot: self.jackpot,
+            paid: self.paid + paid,
+            winning: self.winning + full * row.stake,
+        }
+    }
 }
 
 // The prizes of all tickets, what they paid for the game, and the part of those that play for a jackpot.
@@ -25,58 +61,22 @@ pub struct GameFigures {
     pub eight: Stakes,
 }
 
-// A jackpot's stakes with those of the ticket at a place, which paid so much for the game: the same where it does not play for the jackpot, and
-// then its full matches are not read.
-fn with_ticket(stakes: Stakes, row: Row, full: &[u64; 200], i: usize, paid: u64) -> Stakes
-    requires place { i < 200 }
-    requires room { (stakes.paid + paid < 2 ^ 64) × (stakes.winning + get_or full.now i 0 * row.stake < 2 ^ 64) }
-    ensures same { result.jackpot ≡ stakes.jackpot }
-    ensures paid { result.paid ≡ stakes.paid + cond (eqb row.jackpot stakes.jackpot) paid 0 }
-    ensures winning { result.winning ≡ stakes.winning + winning_stake (winner_from row (get_or full.now i 0) stakes.jackpot) }
+// From what the ways of each live ticket win and what it is paid.
+pub(crate) fn find_figures(game: &DrawnGame, ways: &[TicketWays], paid: &[u64]) -> GameFigures
+    requires matches { Matched game.now ways.now }
+    requires prizes { sum paid.now < 2 ^ 64 }
+    ensures { result ≡ figures_of game.now.rows.now paid.now (full_of ways.now) game.now.game game.now.live }
 {
-    if row.jackpot != stakes.jackpot {
-        return stakes;
-    }
-    Stakes {
-        jackpot: stakes.jackpot,
-        paid: stakes.paid + paid,
-        winning: stakes.winning + full[i] * row.stake,
-    }
-}
-
-// From the prizes and full matches in the first places of two tables, one for each live ticket.
-pub(crate) fn find_figures(
-    rows: &[u64; 3200],
-    paid: &[u64; 200],
-    full: &[u64; 200],
-    live: usize,
-    game: u64,
-) -> GameFigures
-    requires rows { Entered rows.now full.now live }
-    requires prizes { (live ≤ length paid.now) × (sum (take live paid.now) < 2 ^ 64) }
-    ensures { result ≡ figures_of rows.now paid.now full.now game live }
-{
-    let mut prizes: u64 = 0;
-    let mut stakes: u64 = 0;
-    let mut six = Stakes {
-        jackpot: 6,
-        paid: 0,
-        winning: 0,
-    };
-    let mut eight = Stakes {
-        jackpot: 8,
-        paid: 0,
-        winning: 0,
-    };
-    let mut i = 0;
-    while i < live {
-        let row = read_row(rows, i);
-        let own = paid_for(game, row);
-        prizes += paid[i];
+    let prizes = paid.iter().sum();
+    let mut stakes = 0;
+    let mut six = Stakes::none(JackpotKind::Six);
+    let mut eight = Stakes::none(JackpotKind::Eight);
+    for (i, ways) in ways.iter().enumerate() {
+        let row = game.row(i);
+        let own = paid_for(game.game, row);
         stakes += own;
-        six = with_ticket(six, row, full, i, own);
-        eight = with_ticket(eight, row, full, i, own);
-        i += 1;
+        six = six.with_ticket(row, own, ways.full);
+        eight = eight.with_ticket(row, own, ways.full);
     }
     GameFigures {
         prizes,

@@ -2,8 +2,12 @@
 
 #![tactic(auto)]
 
+mod drawn_game;
 mod features;
 mod figures;
+mod jackpot_kind;
 mod payouts;
+mod primary;
 pub mod settle;
 pub mod shares;
+mod ways;

@@ -1,7 +1,6 @@
-// Text: decimal numbers, and the lines that the ledger prints, put into a buffer.
+// Text: the lines that the ledger prints, as values that `{}` writes.
 
 #![tactic(auto)]
 
-pub mod decimal;
 pub mod lines;
 pub mod records;

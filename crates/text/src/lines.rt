@@ -1,81 +1,81 @@
-// The lines that the ledger prints.
-ghost use Rattle.std.specs.Prelude.{◌∷◌, [], ◌++◌, ◌+◌, ◌≤◌, length};
-ghost use Rattle.text.specs.Lines.{RoomFor, Wrote, answer_line, stop_line, till_line, signed};
+// The last two lines that the ledger prints, each with its line's end.
+ghost use Rattle.std.specs.Prelude.{Some};
+ghost use Rattle.text.specs.Lines.{stop_line, till_line, spaced, signed};
 
-use crate::decimal::{put_byte, put_figure, put_four};
 use queries::till::Till;
+use std::fmt;
 
-// A word of four letters and a space; the next place.
-fn put_word(out: &mut [u8], at: usize, a: u8, b: u8, c: u8, d: u8) -> usize
-    requires { at + 5 ≤ length out.old }
-    ensures { Wrote out.old at (a ∷ b ∷ c ∷ d ∷ 32 ∷ []) out.new result }
-{
-    let second = put_byte(out, at, a);
-    let third = put_byte(out, second, b);
-    let fourth = put_byte(out, third, c);
-    let fifth = put_byte(out, fourth, d);
-    put_byte(out, fifth, 32)
-}
+// The line of a stop code.
+#[derive(Clone, Copy)]
+pub struct StopLine(pub u8);
 
-// A figure by its size, with a minus sign where it is below zero, and the line's end; the next place.
-fn put_signed(out: &mut [u8], at: usize, negative: bool, size: u64) -> usize
-    requires { at + length (signed negative size ++ (10 ∷ [])) ≤ length out.old }
-    ensures { Wrote out.old at (signed negative size ++ (10 ∷ [])) out.new result }
-{
-    if negative {
-        let next = put_byte(out, at, 45);
-        return put_figure(out, next, size, 10);
+impl fmt::Display for StopLine {
+    ghost output = { λ s. Some (stop_line s.0) };
+
+    fn fmt<W: fmt::Write>(&self, f: &mut fmt::Formatter<W>) -> fmt::Result {
+        let code = self.0;
+        writeln!(f, "stop {code}")
     }
-    put_figure(out, at, size, 10)
 }
 
-// An answer's line; the next place.
-pub(crate) fn put_answer_line(
-    out: &mut [u8],
-    at: usize,
-    byte: u8,
-    code: u8,
-    number: u32,
-    cents: u64,
-) -> usize
-    requires { RoomFor out.old at (answer_line byte code number cents) }
-    ensures { Wrote out.old at (answer_line byte code number cents) out.new result }
-{
-    put_four(out, at, byte as u64, code as u64, number as u64, cents, 10)
+// The line of the till.
+#[derive(Clone, Copy)]
+pub struct TillLine(pub Till);
+
+impl fmt::Display for TillLine {
+    ghost output = { λ t. Some (till_line t.0) };
+
+    fn fmt<W: fmt::Write>(&self, f: &mut fmt::Formatter<W>) -> fmt::Result {
+        let till = self.0;
+        let figures = Figures(&[
+            till.taken,
+            till.seeds,
+            till.paid,
+            till.refunded,
+            till.owed,
+            till.held,
+            till.unclaimed,
+            till.pooled,
+        ]);
+        let retained = Signed {
+            negative: till.negative,
+            size: till.retained,
+        };
+        writeln!(f, "till{figures} {retained}")
+    }
 }
 
-// The line of a stop code; the next place.
-pub fn put_stop_line(out: &mut [u8], at: usize, code: u8) -> usize
-    requires { RoomFor out.old at (stop_line code) }
-    ensures { Wrote out.old at (stop_line code) out.new result }
-{
-    let next = put_word(out, at, b's', b't', b'o', b'p');
-    put_figure(out, next, code as u64, 10)
+// Figures, each behind a space.
+#[derive(Clone, Copy)]
+struct Figures<'a>(&'a [u64]);
+
+impl fmt::Display for Figures<'_> {
+    ghost output = { λ figures. Some (spaced figures.0.now) };
+
+    fn fmt<W: fmt::Write>(&self, f: &mut fmt::Formatter<W>) -> fmt::Result {
+        for &figure in self.0 {
+            write!(f, " {figure}")?;
+        }
+        Ok(())
+    }
 }
 
-// The line of the till; the next place.
-pub fn put_till_line(out: &mut [u8], at: usize, till: Till) -> usize
-    requires { RoomFor out.old at (till_line till) }
-    ensures { Wrote out.old at (till_line till) out.new result }
-{
-    let first = put_word(out, at, b't', b'i', b'l', b'l');
-    let fifth = put_four(
-        out,
-        first,
-        till.taken,
-        till.seeds,
-        till.paid,
-        till.refunded,
-        32,
-    );
-    let ninth = put_four(
-        out,
-        fifth,
-        till.owed,
-        till.held,
-        till.unclaimed,
-        till.pooled,
-        32,
-    );
-    put_signed(out, ninth, till.negative, till.retained)
+// A figure by its size, with a minus sign where it is below zero: a flag beside a size, as the till's struct has them for C.
+#[derive(Clone, Copy)]
+struct Signed {
+    negative: bool,
+    size: u64,
+}
+
+impl fmt::Display for Signed {
+    ghost output = { λ s. Some (signed s.negative s.size) };
+
+    fn fmt<W: fmt::Write>(&self, f: &mut fmt::Formatter<W>) -> fmt::Result {
+        let size = self.size;
+        if self.negative {
+            write!(f, "-{size}")
+        } else {
+            write!(f, "{size}")
+        }
+    }
 }

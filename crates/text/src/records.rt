@@ -1,30 +1,59 @@
 // The lines of the answers in a book.
-ghost use Rattle.std.specs.Prelude.{◌+◌, ◌≤◌, length, drop};
-ghost use Rattle.text.specs.Lines.{BookRoom, Wrote, record_line, book_lines};
+ghost use Rattle.std.specs.Prelude.{◌≡◌, ◌/◌, Some, length};
+ghost use Rattle.text.specs.Lines.{answer_line, record_line, book_lines};
 
-use crate::lines::put_answer_line;
-use numbers::bytes::{read_u32, read_u64};
+use numbers::bytes::read_number;
+use std::fmt;
 
-// The line of the record at a place of a book, 40 bytes at the most; the next place.
-fn put_record_line(out: &mut [u8], at: usize, book: &[u8], from: usize) -> usize
-    requires { (at + 40 ≤ length out.old) × (from + 14 ≤ length book.now) }
-    ensures { Wrote out.old at (record_line (drop from book.now)) out.new result × (result ≤ at + 40) }
-{
-    let number = read_u32(book, from + 2);
-    let cents = read_u64(book, from + 6);
-    put_answer_line(out, at, book[from], book[from + 1], number, cents)
+// The line of an answer: command byte, code, number and cents.
+#[derive(Clone, Copy)]
+struct AnswerLine {
+    byte: u8,
+    code: u8,
+    number: u32,
+    cents: u64,
 }
 
-// The lines of the first answers of a book, from the buffer's start; the next place.
-pub fn put_book(out: &mut [u8], book: &[u8], answers: usize) -> usize
-    requires { BookRoom out.old book.now answers }
-    ensures { Wrote out.old 0 (book_lines answers book.now) out.new result }
-{
-    let mut at = 0;
-    let mut i = 0;
-    while i < answers {
-        at = put_record_line(out, at, book, i * 14);
-        i += 1;
+impl From<&[u8; 14]> for AnswerLine {
+    ghost from_gives = { λ part line. answer_line line.byte line.code line.number line.cents ≡ record_line part.now };
+
+    fn from(part: &[u8; 14]) -> AnswerLine {
+        AnswerLine {
+            byte: part[0],
+            code: part[1],
+            number: read_number::<4>(part, 2) as u32,
+            cents: read_number::<8>(part, 6),
+        }
     }
-    at
+}
+
+impl fmt::Display for AnswerLine {
+    ghost output = { λ a. Some (answer_line a.byte a.code a.number a.cents) };
+
+    fn fmt<W: fmt::Write>(&self, f: &mut fmt::Formatter<W>) -> fmt::Result {
+        let AnswerLine {
+            byte,
+            code,
+            number,
+            cents,
+        } = *self;
+        writeln!(f, "{byte} {code} {number} {cents}")
+    }
+}
+
+// The lines of the answers in a book of records.
+#[derive(Clone, Copy)]
+pub struct BookLines<'a>(pub &'a [u8]);
+
+impl fmt::Display for BookLines<'_> {
+    ghost output = { λ b. Some (book_lines (length b.0.now / 14) b.0.now) };
+
+    fn fmt<W: fmt::Write>(&self, f: &mut fmt::Formatter<W>) -> fmt::Result {
+        let mut rest = self.0;
+        while let Some((part, more)) = rest.split_first_chunk::<14>() {
+            write!(f, "{}", AnswerLine::from(part))?;
+            rest = more;
+        }
+        Ok(())
+    }
 }

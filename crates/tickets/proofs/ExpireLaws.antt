@@ -14,7 +14,7 @@ use borrow.Author.Tests.{eq-eqb, ne_eqb, eqb-true, eqb-false}
 use Rattle.sale.specs.Lists.{sum, keep}
 use Rattle.sale.specs.Checks.{first_met}
 use Rattle.house.specs.Tickets.{Ticket, games_left, is_live, with_due}
-use Rattle.house.specs.Model.{Model, fresh, with_unclaimed}
+use Rattle.house.specs.Model.{Model, with_unclaimed}
 use Rattle.house.specs.Commands.{blank_ticket, expire, rows_of, code_of, still_live, is_expired, expiring, expired}
 use Rattle.house.specs.View.{tickets_of, view, DayTells}
 use Rattle.tickets.specs.Steps.{Swept}
@@ -47,11 +47,6 @@ kept_tells game t kept = record { tells = go (eqb (games_left game t) 0) (eqb t.
     go true false e f = refl
     go false true e f = refl
     go false false e f = absurd (eqb-false _ _ f (kept.running (eqb-false _ _ e)))
-
--- a house of which only the game and the day count
-abbrev pub on_day : ℕ → ℕ → Model
-on_day game day =
-    record { day = day; game = game; balls = []; issued = 0; live = []; six = fresh.six; eight = fresh.eight; counters = fresh.counters }
 
 -- ---- tickets passed one by one: those that stay move down
 
@@ -156,9 +151,8 @@ module _ (f : Ticket → Bool) (entry : List Ticket) where
 pub passed_swept :
     (h : House) (words marks words' marks' : List ℕ) (left cents : ℕ)
     → h.live ≤ 200
-    → Passed (is_expired (on_day h.game h.day)) (tickets_of words marks) (tickets_of words' marks') h.live left cents
+    → Passed (is_expired (view h words marks)) (tickets_of words marks) (tickets_of words' marks') h.live left cents
     → Swept (view h words marks) words' marks' left cents
-unfolding view is_expired
 passed_swept h words marks words' marks' left cents few p =
     let m : Model = view h words marks in
     let live : m.live ≡ take h.live (tickets_of words marks) = view_live h words marks few in

@@ -4,52 +4,29 @@ use Prim.Native.Nat.{ℕ, ◌≤◌, ◌<◌}
 use native.Mathlib.Omega.{arith}
 use mathlib.Core.Path.{◌≡◌, refl, sym, ap, ◌∙◌, ap₂, subst, subst⁻¹}
 use mathlib.Core.Bool.{Bool, true, false, cond, not, ◌||◌}
-use mathlib.Core.List.{List, [], ◌∷◌, ◌++◌}
+use mathlib.Core.List.{List, ◌++◌}
 use lib.Dec.{eqb, ltb}
 use lib.ListN.{length, take, set}
 use borrow.Author.Tests.{ltb-true, not-false, eq-eqb, ne_eqb, lt-ltb, le-ltb}
+use Rattle.refusals.specs.Refusal.{refusal_number}
+use Rattle.refusals.specs.declared.refusal.Refusal.{Refusal}
+use Rattle.sale.specs.Lists.{every}
 use Rattle.sale.specs.Checks.{first_met}
+use Rattle.sale.proofs.CheckLaws.{stage_err, stage_ok}
 use Rattle.house.specs.Tickets.{Ticket, is_live}
 use Rattle.house.specs.Commands.{blank_ticket, ticket_at, has_ticket, changed, still_live, lookup_rows}
-use Rattle.house.specs.Balance.{Reached}
-use Rattle.house.specs.View.{marks_at, ticket_from, ticket_in, tickets_of, place_of, RisingRows, without, view}
+use Rattle.house.specs.View.{row_at, marks_at, ticket_from, ticket_in, tickets_of, place_of, RisingRows, without, view}
 use Rattle.house.specs.Parts.{ComesWith}
 use Rattle.tickets.specs.Steps.{replaced}
-use Rattle.tickets.specs.declared.lookup.Lookup.{Lookup}
+use Rattle.tickets.specs.declared.lookup.Found.{Found}
 use Rattle.house.specs.declared.state.House.{House}
 use Rattle.house.specs.declared.rows.Row.{Row}
 use Rattle.house.proofs.Ledger.{All}
-use Rattle.house.proofs.Refusals.{row_passed, all_passed}
+use Rattle.house.proofs.Refusals.{all_passed}
 use Rattle.house.proofs.RowLaws.{place_ticket}
 use Rattle.house.proofs.RisingNumbers.{all_at, changed_stays, changed_closes}
 use Rattle.house.proofs.ReachedHouses.{Sure, reached_sure}
 use Rattle.house.proofs.ViewLaws.{live_count, view_few, view_live, view_has, view_rising, view_ticket}
-
--- ---- two tables one below the other
-
-first_met_above : (rows more : List (Bool × ℕ)) → (first_met rows ≡ 0 → ⊥) → first_met (rows ++ more) ≡ first_met rows
-unfolding first_met
-first_met_above [] more some = absurd (some refl)
-first_met_above (row ∷ rows) more some = go row.0 some (first_met_above rows more)
-  where
-    go :
-        (met : Bool)
-        → (cond met row.1 (first_met rows) ≡ 0 → ⊥)
-        → ((first_met rows ≡ 0 → ⊥) → first_met (rows ++ more) ≡ first_met rows)
-        → cond met row.1 (first_met (rows ++ more)) ≡ cond met row.1 (first_met rows)
-    go true some rest = refl
-    go false some rest = rest some
-
-pub first_met_below :
-    (rows more : List (Bool × ℕ))
-    → All (λ row. row.1 ≡ 0 → ⊥) rows
-    → first_met rows ≡ 0
-    → first_met (rows ++ more) ≡ first_met more
-unfolding first_met
-first_met_below [] more numbered none = refl
-first_met_below (row ∷ rows) more numbered none =
-    let passed = row_passed row.0 row.1 (first_met rows) numbered.0 none in
-    rw passed.0 (first_met_below rows more numbered.1 passed.1)
 
 -- ---- the table's first rows, by the number's place among the rows
 
@@ -103,59 +80,66 @@ module _ (h : House) (words marks : List ℕ) (n : ℕ) where
 
 -- ---- the ticket
 
--- a row with the marks of a place
-abbrev pub ticket_with : Row → List ℕ → ℕ → Ticket
-ticket_with w marks p = ticket_from w (marks_at marks p)
+-- what was found, with the marks that stand beside it
+abbrev pub found_in : Found → List ℕ → Ticket
+found_in found marks = ticket_from found.row (marks_at marks found.place)
 
--- a number that passes the table's first rows is a live ticket's
-module _ (h : House) (words marks : List ℕ) (n : ℕ) (passed : first_met (lookup_rows n (view h words marks)) ≡ 0) where
-  place_within : place_of n (view h words marks).live < h.live
-  place_within =
-      ltb-true _ _ (sym (view_has h words marks n) ∙ not-false _ (all_passed (lookup_rows n (view h words marks)) (omega arith) passed).1.1.0)
+-- the row read at a live number's place is its ticket's
+pub live_ticket :
+    (h : House) (words marks : List ℕ) (n k p : ℕ) (w : Row)
+    → ComesWith h words
+    → k ≡ n
+    → p ≡ place_of k (take h.live (tickets_of words marks))
+    → p < h.live
+    → w ≡ row_at words p
+    → ticket_from w (marks_at marks p) ≡ ticket_at n (view h words marks).live
+live_ticket h words marks n k p w comes same here within read =
+    let placed : p ≡ place_of n (view h words marks).live =
+    here ∙ ap (λ k. place_of k (take h.live (tickets_of words marks))) same ∙ sym (row_place h words marks n comes) in
+    ap (λ w. ticket_from w (marks_at marks p)) read
+    ∙ ap (ticket_in words marks) placed
+    ∙ sym (view_ticket h words marks n (subst (λ i. i < h.live) placed within))
 
-  pub placed_ticket : (p : ℕ) → p ≡ place_of n (view h words marks).live → ticket_in words marks p ≡ ticket_at n (view h words marks).live
-  placed_ticket p placed = ap (ticket_in words marks) placed ∙ sym (view_ticket h words marks n place_within)
-
--- a ticket's number that passed the table's first rows, its place and its row
-pub record FoundTicket (h : House) (words marks : List ℕ) (n p : ℕ) (w : Row) : Type 0 where
+-- a ticket's number that passed the table's first rows, and what was found of it
+pub record FoundTicket (h : House) (words marks : List ℕ) (n : ℕ) (found : Found) : Type 0 where
   pub sure : Sure (view h words marks)
   pub passed : first_met (lookup_rows n (view h words marks)) ≡ 0
-  pub placed : p ≡ place_of n (view h words marks).live
-  pub ticket : ticket_with w marks p ≡ ticket_at n (view h words marks).live
+  pub placed : found.place ≡ place_of n (view h words marks).live
+  pub ticket : found_in found marks ≡ ticket_at n (view h words marks).live
 
--- what a look-up answers: the refusal is the command's, or the ticket is found
-module _ (h : House) (words marks : List ℕ) (n : ℕ) (l : Lookup) (code : l.code ≡ first_met (lookup_rows n (view h words marks))) where
-  pub look_up_refused : (l.code ≡ 0 → ⊥) → (more : List (Bool × ℕ)) → first_met (lookup_rows n (view h words marks) ++ more) ≡ l.code
-  look_up_refused some more = first_met_above (lookup_rows n (view h words marks)) more (λ none. some (code ∙ none)) ∙ sym code
+-- a look-up's refusal is the command's, whatever rows are below
+pub look_up_refused :
+    (h : House) (words marks : List ℕ) (n : ℕ) (refusal : Refusal)
+    → refusal_number refusal ≡ first_met (lookup_rows n (view h words marks))
+    → (more : List (Bool × ℕ))
+    → first_met (lookup_rows n (view h words marks) ++ more) ≡ refusal_number refusal
+unfolding every
+look_up_refused h words marks n refusal told more = stage_err (lookup_rows n (view h words marks)) more refl refusal told
 
-  pub look_up_found :
-      Reached (view h words marks)
-      → l.code ≡ 0
-      → (l.code ≡ 0 → l.place ≡ place_of n (view h words marks).live)
-      → (l.code ≡ 0 → ticket_with l.row marks l.place ≡ ticket_at n (view h words marks).live)
-      → FoundTicket h words marks n l.place l.row
-  look_up_found reached none place row =
-      record { sure = reached_sure _ reached; passed = sym code ∙ none; placed = place none; ticket = row none }
-
-module _ {h : House} {words marks : List ℕ} {n p : ℕ} {w : Row} (found : FoundTicket h words marks n p w) where
+module _ {h : House} {words marks : List ℕ} {n : ℕ} {found : Found} (here : FoundTicket h words marks n found) where
   pub found_few : h.live ≤ 200
-  found_few = view_few h words marks found.sure
+  found_few = view_few h words marks here.sure
 
   -- what the rest of the command's table says
   pub found_rest : (more : List (Bool × ℕ)) → first_met (lookup_rows n (view h words marks) ++ more) ≡ first_met more
-  found_rest more = first_met_below (lookup_rows n (view h words marks)) more (omega arith) found.passed
+  unfolding every
+  found_rest more = stage_ok (lookup_rows n (view h words marks)) more refl (sym here.passed)
 
-  pub found_within : p < h.live
-  found_within = subst⁻¹ (λ i. i < h.live) found.placed (place_within h words marks n found.passed)
+  place_within : place_of n (view h words marks).live < h.live
+  place_within =
+      ltb-true _ _ (sym (view_has h words marks n) ∙ not-false _ (all_passed (lookup_rows n (view h words marks)) (omega arith) here.passed).1.1.0)
 
-  pub found_ticket : ticket_at n (view h words marks).live ≡ ticket_with w marks p
-  found_ticket = sym found.ticket
+  pub found_within : found.place < h.live
+  found_within = subst⁻¹ (λ i. i < h.live) here.placed place_within
+
+  pub found_ticket : ticket_at n (view h words marks).live ≡ found_in found marks
+  found_ticket = sym here.ticket
 
   among : place_of n (view h words marks).live < length (view h words marks).live
-  among = omega (arith, live_count h words marks, place_within h words marks n found.passed)
+  among = omega (arith, live_count h words marks, place_within)
 
   -- what holds of every live ticket holds of it
-  pub found_holds : (P : Ticket → Type 0) → All P (view h words marks).live → P (ticket_with w marks p)
+  pub found_holds : (P : Ticket → Type 0) → All P (view h words marks).live → P (found_in found marks)
   found_holds P all =
       subst P (sym (place_ticket n (view h words marks).live) ∙ found_ticket)
       (all_at P (view h words marks).live all (place_of n (view h words marks).live) blank_ticket among)
@@ -164,28 +148,28 @@ module _ {h : House} {words marks : List ℕ} {n p : ℕ} {w : Row} (found : Fou
   module _ (f : Ticket → Ticket) where
     change_by :
         (live : Bool)
-        → is_live h.game (f (ticket_with w marks p)) ≡ live
+        → is_live h.game (f (found_in found marks)) ≡ live
         → still_live h.game (changed n f (view h words marks).live)
-        ≡ cond live (set (view h words marks).live p (f (ticket_with w marks p))) (without p (view h words marks).live)
+        ≡ cond live (set (view h words marks).live found.place (f (found_in found marks))) (without found.place (view h words marks).live)
     unfolding view
     change_by true stays =
-        changed_stays h.game n f (view h words marks).live found.sure.alive found.sure.rising among
+        changed_stays h.game n f (view h words marks).live here.sure.alive here.sure.rising among
         (ap (λ t. is_live h.game (f t)) found_ticket ∙ stays)
-        ∙ ap₂ (λ i t. set (view h words marks).live i (f t)) (sym found.placed) found_ticket
+        ∙ ap₂ (λ i t. set (view h words marks).live i (f t)) (sym here.placed) found_ticket
     change_by false closes =
-        changed_closes h.game n f (view h words marks).live found.sure.alive found.sure.rising among
+        changed_closes h.game n f (view h words marks).live here.sure.alive here.sure.rising among
         (ap (λ t. is_live h.game (f t)) found_ticket ∙ closes)
-        ∙ ap (λ i. without i (view h words marks).live) (sym found.placed)
+        ∙ ap (λ i. without i (view h words marks).live) (sym here.placed)
 
     -- of which the first rows of other buffers are made
     pub found_changed :
         (after : House) (words' marks' : List ℕ)
         → after.live ≤ h.live
         → take after.live (tickets_of words' marks')
-        ≡ replaced h.game p (f (ticket_with w marks p)) (take h.live (tickets_of words marks))
+        ≡ replaced h.game found.place (f (found_in found marks)) (take h.live (tickets_of words marks))
         → (view after words' marks').live ≡ still_live h.game (changed n f (view h words marks).live)
     found_changed after words' marks' fewer made =
         view_live after words' marks' (omega (arith, found_few))
         ∙ made
-        ∙ ap (replaced h.game p (f (ticket_with w marks p))) (sym (view_live h words marks found_few))
-        ∙ sym (change_by (is_live h.game (f (ticket_with w marks p))) refl)
+        ∙ ap (replaced h.game found.place (f (found_in found marks))) (sym (view_live h words marks found_few))
+        ∙ sym (change_by (is_live h.game (f (found_in found marks))) refl)

@@ -1,18 +1,23 @@
 -- What the steps of a command's code give each other: the rows of the refusal table that a command reads off the ticket it found, and the
 -- live tickets after a change.
-use Rattle.std.specs.Prelude.{ℕ, ◌+◌, Bool, cond, not, List, [], ◌∷◌, map, ltb, leb, eqb, set, length, take, ◌≡◌}
+use Rattle.std.specs.Prelude.{ℕ, ◌+◌, Bool, cond, not, ◌||◌, List, [], ◌∷◌, map, ltb, leb, eqb, set, length, take, ◌≡◌}
 use Rattle.house.specs.Tickets.{Ticket, is_finished, is_live, keno_to_go_begun}
 use Rattle.house.specs.View.{without, tickets_of}
 use Rattle.sale.specs.Lists.{sum, keep}
-use Rattle.sale.specs.Checks.{Operands, operand_code, quote_of}
+use Rattle.sale.specs.Checks.{Operands, operand_code, accepted_quote}
 use Rattle.sale.specs.declared.check.Quote.{Quote}
-use Rattle.house.specs.Model.{Model}
+use Rattle.house.specs.Model.{Model, ticket_limit, game_limit, live_limit, next_game}
 use Rattle.house.specs.Commands.{is_expired, expiring}
 
 -- Sell: the quote of operands that pass their checks
 pub record Quoted (q : Quote) (o : Operands) : Type 0 where
-  pub quote : q ≡ quote_of o
+  pub quote : q ≡ accepted_quote o
   pub passed : operand_code o ≡ 0
+
+-- and the rows below those of the operands, of a ticket of so many games
+abbrev pub room_rows : Model → ℕ → List (Bool × ℕ)
+room_rows m games =
+    (leb live_limit (length m.live), 16) ∷ (leb ticket_limit m.issued || ltb (game_limit + 1) (next_game m + games), 17) ∷ []
 
 -- Claim, where the given game is the current one
 abbrev pub claim_rows : ℕ → Ticket → List (Bool × ℕ)

@@ -1,40 +1,35 @@
 // Sell, with a feature or without one: the checks in the order of the table, and then one ticket more behind the live ones.
 ghost use Rattle.std.specs.Prelude.{◌≡◌, List, ℕ, ◌≤◌};
-ghost use Rattle.sale.specs.Checks.{Operands, operands_of, operand_code};
+ghost use Rattle.refusals.specs.Refusal.{code_in};
+ghost use Rattle.sale.specs.Checks.{operands_of, first_met};
 ghost use Rattle.house.specs.Model.{ticket_limit};
-ghost use Rattle.house.specs.Commands.{sell, code_of, sold_ticket};
+ghost use Rattle.house.specs.Commands.{sell, sold_ticket};
 ghost use Rattle.house.specs.Balance.{Reached};
 ghost use Rattle.house.specs.View.{view, ticket_from, InGames};
-ghost use Rattle.house.specs.Parts.{Carried};
-ghost use Rattle.tickets.specs.Steps.{Quoted};
+ghost use Rattle.house.specs.Parts.{Carried, host_answer};
+ghost use Rattle.tickets.specs.Steps.{Quoted, room_rows};
 
-use house::answer::{Outcome, accepted, refused};
+use house::answer::Receipt;
 use house::rows::{Row, append_ticket};
 use house::state::House;
+use refusals::refusal::Refusal;
 use sale::check::{Quote, quote_for};
 use sale::terms::Sale;
 
-// The refusal's number on an open day, or 0, where `quoted` is that of the operands alone.
-#[tactic(auto, using(crate::proofs::SellLaws::sold_unfit, crate::proofs::SellLaws::sold_out, crate::proofs::SellLaws::sold_last_number, crate::proofs::SellLaws::sold_last_game, crate::proofs::SellLaws::sold_fits))]
-fn sale_code(house: House, games: u8, quoted: u8) -> u8
-    requires { InGames house × (house.day ≡ 0 → ⊥) }
-    ensures { (words marks : List ℕ) (o : Operands) → o.games ≡ games → operand_code o ≡ quoted → result ≡ code_of (view house words marks) (sell o) }
+// Whether there is room for one ticket more, of so many games.
+#[tactic(auto, using(crate::proofs::SellLaws::room_full, crate::proofs::SellLaws::room_numbers, crate::proofs::SellLaws::room_games, crate::proofs::SellLaws::room_left))]
+fn check_room(house: House, games: u8) -> Result<(), Refusal>
+    requires { InGames house }
+    ensures { (words marks : List ℕ) → code_in result ≡ first_met (room_rows (view house words marks) games) }
 {
-    if quoted != 0 {
-        return quoted;
+    if House::LIVE_LIMIT <= house.live {
+        return Err(Refusal::LiveLimit);
     }
-    let live = house.live;
-    if House::LIVE_LIMIT <= live {
-        return 16;
+    let end = house.first_game() + u64::from(games);
+    if House::TICKET_LIMIT <= house.issued || House::GAME_LIMIT + 1 < end {
+        return Err(Refusal::SaleLimit);
     }
-    let issued = house.issued;
-    if House::TICKET_LIMIT <= issued {
-        return 17;
-    }
-    if House::GAME_LIMIT + 1 < house.first_game() + games as u64 {
-        return 17;
-    }
-    0
+    Ok(())
 }
 
 // The row of a new ticket, from the quote of its operands.
@@ -43,55 +38,50 @@ fn sold_row(house: House, sale: Sale, quote: Quote) -> Row
     ensures { (words marks from : List ℕ) → Quoted quote (operands_of sale from) → ticket_from result from ≡ sold_ticket (view house words marks) (operands_of sale from) }
 {
     let first = house.first_game();
-    let feature = sale.feature;
     Row {
         number: house.issued + 1,
-        kind: sale.kind as u64,
-        games: sale.games as u64,
-        stake: sale.stake as u64,
-        groups: sale.groups as u64,
-        types: sale.types as u64,
-        ways: quote.ways as u64,
-        jackpot: quote.jackpot as u64,
+        kind: u64::from(sale.kind),
+        games: u64::from(sale.games),
+        stake: u64::from(sale.stake),
+        groups: u64::from(sale.groups),
+        types: u64::from(sale.types),
+        ways: u64::from(quote.ways),
+        jackpot: u64::from(quote.jackpot),
         sold: house.day,
         first,
-        stop: first + sale.games as u64,
-        free: first + quote.paid as u64,
+        stop: first + u64::from(sale.games),
+        free: first + u64::from(quote.paid),
         due: 0,
         finished: 0,
         sizes: quote.sizes,
-        feature: feature.stake() as u64,
+        feature: u64::from(sale.feature.unwrap_or(0)),
     }
 }
 
-// A ticket for its first game and those after it, numbered by the sales so far, for which the charge is taken; or the refusal.
+// A ticket for its first game and those after it, numbered by the sales so far, for which the charge is taken.
 pub fn sell_ticket(
-    mut house: House,
+    house: &mut House,
     rows: &mut [u64; 3200],
     marks: &mut [u8; 16000],
     sale: Sale,
     from: &[u8],
-) -> Outcome
-    requires { Reached (view house rows.old marks.old) }
-    ensures { Carried house rows.old marks.old (sell (operands_of sale from.now)) result.house rows.new marks.new result.answer }
+) -> Result<Receipt, Refusal>
+    requires { Reached (view house.old rows.old marks.old) }
+    ensures { Carried house.old rows.old marks.old (sell (operands_of sale from.now)) house.new rows.new marks.new (host_answer result) }
 {
-    let day = house.day;
-    if day == 0 {
-        return refused(house, 4);
+    if house.day == 0 {
+        return Err(Refusal::NotOpen);
     }
-    let quote = quote_for(sale, from);
-    let code = sale_code(house, sale.games, quote.code);
-    if code != 0 {
-        return refused(house, code);
-    }
-    let row = sold_row(house, sale, quote);
-    let live = house.live;
-    append_ticket(rows, marks, live as usize, row, from);
-    let number = house.issued + 1;
-    let charge = quote.charge as u64;
-    let taken = house.counters.taken + charge;
-    house.issued = number;
-    house.live = live + 1;
-    house.counters.taken = taken;
-    accepted(house, number as u32, charge)
+    let quote = quote_for(sale, from)?;
+    check_room(*house, sale.games)?;
+    let row = sold_row(*house, sale, quote);
+    append_ticket(rows, marks, house.live as usize, row, from);
+    let cents = u64::from(quote.charge);
+    house.issued += 1;
+    house.live += 1;
+    house.counters.taken += cents;
+    Ok(Receipt {
+        number: house.issued as u32,
+        cents,
+    })
 }

@@ -1,11 +1,11 @@
 -- `commands::open::open_day` meets its contract: each return is one row of Open's table, or past both.
 use Prim.Native.Nat.{ℕ}
-use mathlib.Core.Path.{◌≡◌, ap, ◌∙◌}
+use native.Mathlib.Omega.{arith}
+use mathlib.Core.Path.{◌≡◌, refl, ap}
 use mathlib.Core.Bool.{cond, not}
 use mathlib.Core.List.{List}
 use lib.Dec.{leb, eqb}
-use borrow.Author.Rules.{rules}
-use borrow.Author.Tests.{le-leb, lt-leb, eq-eqb, ne_eqb}
+use Rattle.std.proofs.lemmas.Bool.Decides.{nat_tests}
 use Rattle.sale.specs.Checks.{first_met}
 use Rattle.house.specs.Commands.{open', rows_of, code_of, opened, act, reply}
 use Rattle.house.specs.View.{view}
@@ -20,25 +20,23 @@ unfolding code_of rows_of first_met view
 open_code h words marks d = ap (λ drawing. cond (leb d h.day) 5 (cond drawing 6 0)) (view_drawing h words marks)
 
 pub returns-then-today-house : goal.returns-then-today-house
-returns-then-today-house c = λ words marks.
+returns-then-today-house c words marks =
     let args = c.args in
-    carried_refused args.house words marks (open' args.day) 5 _ _
-    (open_code args.house words marks args.day ∙ rw (le-leb args.day args.house.day c.if-today-house.true))
-    (search rules) c.refused.ensures.0 c.refused.ensures.1
+    let code : code_of (view args.house.now words marks) (open' args.day) ≡ 5 = grind (arith, nat_tests, open_code args.house.now words marks args.day) in
+    carried_refused args.house.now words marks (open' args.day) 5 _ _ code (omega arith) refl refl
 
 pub returns-then-house-ne0 : goal.returns-then-house-ne0
-returns-then-house-ne0 c = λ words marks.
+returns-then-house-ne0 c words marks =
     let args = c.args in
-    carried_refused args.house words marks (open' args.day) 6 _ _
-    (open_code args.house words marks args.day
-    ∙ rw (lt-leb args.day args.house.day c.if-today-house.false, ne_eqb args.house.drawn 0 c.if-house-ne0.true))
-    (search rules) c.refused-then-house-ne0.ensures.0 c.refused-then-house-ne0.ensures.1
+    let code : code_of (view args.house.now words marks) (open' args.day) ≡ 6 = grind (arith, nat_tests, open_code args.house.now words marks args.day) in
+    carried_refused args.house.now words marks (open' args.day) 6 _ _ code (omega arith) refl refl
 
 pub returns : goal.returns
 unfolding act reply opened view
-returns c = λ words marks.
+returns c words marks =
     let args = c.args in
-    carried_done args.house words marks (open' args.day) _ words marks _
-    (open_code args.house words marks args.day
-    ∙ rw (lt-leb args.day args.house.day c.if-today-house.false, eq-eqb args.house.drawn 0 c.if-house-ne0.false))
-    (ap (λ h. view h words marks) c.accepted.ensures.0) c.accepted.ensures.1
+    let code : code_of (view args.house.now words marks) (open' args.day) ≡ 0 = grind (arith, nat_tests, open_code args.house.now words marks args.day) in
+    let day = c.from-today.ensures in
+    let number = c.from.ensures in
+    carried_done args.house.now words marks (open' args.day) _ words marks _ code (ap (λ d. view (record args.house.now { day = d }) words marks) day)
+    (λ i. record { code = 0; number = number i; cents = 0 })

@@ -1,58 +1,49 @@
 -- `commands::transfer::transfer_cents` meets its contract: an accepted transfer is covered by the unclaimed money, and a reached house's primary
 -- has room for it.
 use native.Mathlib.Omega.{arith}
-use mathlib.Core.Path.{sym, ap, ◌∙◌}
+use mathlib.Core.Path.{refl, sym, ap, ◌∙◌}
+use borrow.Author.Rules.{rules}
 use borrow.Author.Tests.{eq-eqb, ne_eqb}
-use Rattle.house.specs.Commands.{transfer, transferred, act, reply}
+use Rattle.house.specs.Commands.{transfer, code_of}
 use Rattle.house.specs.View.{view}
-use Rattle.house.specs.Parts.{Comes}
-use Rattle.house.specs.declared.state.House.{House}
-use Rattle.house.proofs.Refusals.{transfer_accepted}
-use Rattle.house.proofs.ReachedHouses.{Sure, reached_sure}
-use Rattle.house.proofs.ViewLaws.{carried_refused, carried_done}
+use Rattle.house.proofs.ViewLaws.{refused_as}
+use Rattle.commands.proofs.TransferLaws.{room, transfer_done}
 use Rattle.commands.proofs.transfer.transfer_cents.Goals as goal
+use Rattle.commands.proofs.transfer.transfer_cents.Goals.{in-6, in_default}
 
--- what holds of the house, whichever buffers it came with
-sure : (h : House) (k : Comes h) → Sure (view h k.words k.marks)
-sure h k = reached_sure (view h k.words k.marks) k.reached
-
-pub returns-then-code-ne0 : goal.returns-then-code-ne0
-returns-then-code-ne0 c = λ words marks.
+pub returns-in_err-check_transfer : goal.returns-in_err-check_transfer
+returns-in_err-check_transfer c words marks =
     let args = c.args in
-    carried_refused args.house words marks (transfer args.jackpot args.cents) c.transfer_code-code.result _ _
-    (sym (c.transfer_code-code.ensures words marks)) c.if-code-ne0.true c.refused.ensures.0 c.refused.ensures.1
+    refused_as args.house.now words marks (transfer args.jackpot args.cents) _ _ c.from_residual.ensures.1
+    (c.in_err-check_transfer.ensures.code words marks
+    ∙ ap (λ n. code_of (view args.house.now words marks) (transfer args.jackpot n)) c.from-money.ensures)
 
-pub overflow_sub-unclaimed : goal.overflow_sub-unclaimed
-unfolding view
-overflow_sub-unclaimed c =
-    let house = c.args.house in
-    (transfer_accepted (view house c.requires.words c.requires.marks) c.args.jackpot c.args.cents
-    (sym (c.transfer_code-code.ensures c.requires.words c.requires.marks) ∙ c.if-code-ne0.false)).covered
+pub add_to_primary-primary-requires : goal.add_to_primary-primary-requires
+add_to_primary-primary-requires c = omega (arith, c.ranges.cents, (room c.args.house.now c.requires).six)
 
-pub overflow_add-primary : goal.overflow_add-primary
-unfolding view
-overflow_add-primary c =
-    omega (arith, c.ranges.cents, (sure c.args.house c.requires).fit.six)
-
-pub returns-then-jackpot-eq6 : goal.returns-then-jackpot-eq6
-unfolding act reply transferred view
-returns-then-jackpot-eq6 c = λ words marks.
-    let args = c.args in
-    let six = eq-eqb args.jackpot 6 c.if-jackpot-eq6.true in
-    carried_done args.house words marks (transfer args.jackpot args.cents) _ words marks _
-    (sym (c.transfer_code-code.ensures words marks) ∙ c.if-code-ne0.false)
-    (rw six (ap (λ h. view h words marks) c.accepted.ensures.0)) (rw six c.accepted.ensures.1)
-
-pub overflow_add-primary-2 : goal.overflow_add-primary-2
-unfolding view
-overflow_add-primary-2 c =
-    omega (arith, c.ranges.cents, (sure c.args.house c.requires).fit.eight)
+pub add_to_primary-primary-requires-in_default : goal.add_to_primary-primary-requires-in_default
+add_to_primary-primary-requires-in_default c = omega (arith, c.ranges.cents, (room c.args.house.now c.requires).eight)
 
 pub returns : goal.returns
-unfolding act reply transferred view
-returns c = λ words marks.
+returns c words marks =
     let args = c.args in
-    let eight = ne_eqb args.jackpot 6 c.if-jackpot-eq6.false in
-    carried_done args.house words marks (transfer args.jackpot args.cents) _ words marks _
-    (sym (c.transfer_code-code.ensures words marks) ∙ c.if-code-ne0.false)
-    (rw eight (ap (λ h. view h words marks) c.accepted-2.ensures.0)) (rw eight c.accepted-2.ensures.1)
+    let same = c.from-money.ensures in
+    transfer_done args.house.now words marks args.jackpot args.cents _ _ _
+    (sym (c.in_ok-check_transfer.ensures.code words marks ∙ ap (λ n. code_of (view args.house.now words marks) (transfer args.jackpot n)) same))
+    (elim c.match-jackpot.branch [
+      | in-6 w ↦
+          let six = eq-eqb args.jackpot 6 w.in-6.is in
+          let pools = w.add_to_primary-primary.ensures.pools in
+          w.next-is ∙ rw (six, pools, same) refl
+      | in_default w ↦
+          let eight = ne_eqb args.jackpot 6 (search rules) in
+          let pools = w.add_to_primary-primary-in_default.ensures.pools in
+          w.next-is ∙ rw (eight, pools, same) refl
+    ])
+    c.from.ensures
+    (elim c.match-jackpot.branch [
+      | in-6 w ↦ let six = eq-eqb args.jackpot 6 w.in-6.is in w.primary-is ∙ w.add_to_primary-primary.ensures.primary ∙ rw (six, same)
+      | in_default w ↦
+          let eight = ne_eqb args.jackpot 6 (search rules) in
+          w.primary-is ∙ w.add_to_primary-primary-in_default.ensures.primary ∙ rw (eight, same)
+    ])

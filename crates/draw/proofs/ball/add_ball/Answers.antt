@@ -10,12 +10,10 @@ use Rattle.draw.proofs.ball.add_ball.Goals as goal
 
 pub returns : goal.returns
 returns c = λ words marks coded.
-    let house = c.args.house in
+    let house = c.args.house.now in
     let number = c.args.number in
     let in_now = balls_count house words marks in
     let early = early_act (view house words marks) number (λ e. omega (arith, c.requires, in_now)) in
     carried_done house words marks (ball number) _ words marks _ coded
-    (ap (λ h. view h words marks) c.accepted.ensures.0
-    ∙ entered_view house words marks number c.balls_with-balls.result (c.balls_with-balls.ensures.balls words marks)
-    ∙ sym early.0)
-    (c.accepted.ensures.1 ∙ ap (λ n. answer_of (replies (n + 1) 0)) (sym in_now) ∙ ap answer_of (sym early.1))
+    (entered_view house words marks number c.balls_with-house.result (c.balls_with-house.ensures.balls words marks) ∙ sym early.0)
+    (ap (λ n. answer_of (replies (n + 1) 0)) (sym in_now) ∙ ap answer_of (sym early.1))

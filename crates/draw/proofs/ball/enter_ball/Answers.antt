@@ -1,46 +1,39 @@
 -- `draw::ball::enter_ball` meets its contract: a refusal by the table's number, a ball more, or the twentieth, since 19 are in at the most.
-use Prim.Native.Nat.{ℕ, ◌≤◌}
 use native.Mathlib.Omega.{arith}
-use mathlib.Core.Path.{◌≡◌, sym, ◌∙◌}
-use mathlib.Core.List.{List}
-use Rattle.house.specs.Balance.{Reached}
 use Rattle.house.specs.Commands.{ball}
-use Rattle.house.specs.View.{view}
-use Rattle.house.specs.declared.state.House.{House}
-use Rattle.house.proofs.ViewLaws.{carried_refused, balls_count}
-use Rattle.draw.proofs.BallLaws.{balls_few, twenty_drawn}
+use Rattle.house.proofs.ViewLaws.{refused_as}
+use Rattle.draw.proofs.BallLaws.{drawn_few, completes}
 use Rattle.draw.proofs.ball.enter_ball.Goals as goal
 
-few : (h : House) (words marks : List ℕ) → Reached (view h words marks) → h.drawn ≤ 19
-few h words marks reached = omega (arith, balls_few (view h words marks) reached, balls_count h words marks)
+pub check_ball-requires : goal.check_ball-requires
+check_ball-requires c = omega (arith, drawn_few c.args.house.now c.args.rows.now c.args.marks.now c.requires)
 
-pub ball_code-code-requires : goal.ball_code-code-requires
-ball_code-code-requires c = omega (arith, few c.args.house c.args.rows.now c.args.marks.now c.requires)
+pub returns-in_err-check_ball : goal.returns-in_err-check_ball
+returns-in_err-check_ball c =
+    let args = c.args in
+    refused_as args.house.now args.rows.now args.marks.now (ball args.number) _ _ c.from_residual.ensures.1
+    (c.in_err-check_ball.ensures args.rows.now args.marks.now)
 
 pub balls_with-requires : goal.balls_with-requires
-balls_with-requires c = omega (arith, few c.args.house c.args.rows.now c.args.marks.now c.requires)
+balls_with-requires c = omega (arith, drawn_few c.args.house.now c.args.rows.now c.args.marks.now c.requires)
 
--- nineteen balls are in where there are no fewer, and then the ball completes the draw
-pub settle_game-outcome-requires : goal.settle_game-outcome-requires
-settle_game-outcome-requires c =
+-- the draw is the one that the ball completes
+pub settle_game-requires : goal.settle_game-requires
+settle_game-requires c =
     let args = c.args in
-    let nineteen : args.house.drawn ≡ 19 = omega (arith, few args.house args.rows.now args.marks.now c.requires) in
     record {
       reached = c.requires;
       number = args.number;
       drawn =
-          record {
-            accepted = sym (c.ball_code-code.ensures args.rows.now args.marks.now) ∙ c.if-code-eq0.true;
-            last = balls_count args.house args.rows.now args.marks.now ∙ nineteen;
-            draw' =
-                c.of.ensures
-                ∙ twenty_drawn args.house args.rows.now args.marks.now c.balls_with.result args.number
-                c.balls_with.ensures.count nineteen (c.balls_with.ensures.balls args.rows.now args.marks.now);
-          };
+          completes args.house.now args.rows.now args.marks.now args.number c.balls_with.result _ c.requires (omega arith)
+          (c.in_ok-check_ball.ensures args.rows.now args.marks.now) c.balls_with.ensures.count
+          (c.balls_with.ensures.balls args.rows.now args.marks.now) c.of-draw.ensures;
     }
 
-pub returns-else-code-eq0 : goal.returns-else-code-eq0
-returns-else-code-eq0 c =
+pub returns : goal.returns
+returns c =
     let args = c.args in
-    carried_refused args.house args.rows.now args.marks.now (ball args.number) c.ball_code-code.result _ _
-    (sym (c.ball_code-code.ensures args.rows.now args.marks.now)) c.if-code-eq0.false c.refused-outcome.ensures.0 c.refused-outcome.ensures.1
+    c.settle_game.ensures args.number
+    (completes args.house.now args.rows.now args.marks.now args.number c.balls_with.result _ c.requires (omega arith)
+    (c.in_ok-check_ball.ensures args.rows.now args.marks.now) c.balls_with.ensures.count
+    (c.balls_with.ensures.balls args.rows.now args.marks.now) c.of-draw.ensures)

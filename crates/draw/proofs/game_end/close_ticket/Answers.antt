@@ -59,11 +59,11 @@ module _ (words marks : List ℕ) (i left : ℕ) (behind : left ≤ i) (within :
 
     -- what is found of the row that was read says whether the ticket closes
     module _ (row : Row) (found : Bool) (read : row ≡ row_at words i)
-        (answered : (d : ℕ) (m : List ℕ) → found ≡ not (is_live game (paid_ticket d game cents (ticket_from row m)))) where
+        (answered : (m : List ℕ) → found ≡ not (is_live game (paid_ticket day game cents (ticket_from row m)))) where
       found_here : not (is_live game paid) ≡ found
       found_here =
           ap (λ (r : Row). not (is_live game (paid_ticket day game cents (ticket_from r (marks_at marks i))))) (sym read)
-          ∙ sym (answered day (marks_at marks i))
+          ∙ sym (answered (marks_at marks i))
 
       closes : found ≡ true → take left before ≡ take left before ++ still_live game (paid ∷ [])
       closes e = closed_stays before left i behind long game paid (not-true _ (found_here ∙ e))
@@ -74,11 +74,11 @@ module _ (words marks : List ℕ) (i left : ℕ) (behind : left ≤ i) (within :
 pub returns-then-closes-clause-stay : goal.returns-then-closes-clause-stay
 returns-then-closes-clause-stay c =
     let args = c.args in
-    closes args.rows.now args.marks.now args.i args.left c.requires.0 c.requires.1 args.day args.game args.cents
+    closes args.rows.now args.marks.now args.i args.left c.requires.0 c.requires.1 args.payment.day args.payment.game args.payment.cents
     c.read_row-row.result c.closes.result c.read_row-row.ensures c.closes.ensures c.if-closes.true
 
-pub returns-then-is_same-clause-stay : goal.returns-then-is_same-clause-stay
-returns-then-is_same-clause-stay c =
+pub returns-then-is_nothing-clause-stay : goal.returns-then-is_nothing-clause-stay
+returns-then-is_nothing-clause-stay c =
     let args = c.args in
     let words = c.move_ticket.new.rows in
     let marks = c.move_ticket.new.marks in
@@ -87,13 +87,13 @@ returns-then-is_same-clause-stay c =
     moved_here args.rows.now args.marks.now args.i args.left c.requires.0 c.requires.1 words marks c.read_row-moved.result
     c.move_ticket.ensures c.read_row-moved.ensures in
     ap (take (args.left + 1))
-    (same_stays args.rows.now args.marks.now args.i args.left c.requires.0 c.requires.1 args.day args.game args.cents words marks
-    (ticket_from c.read_row-moved.result own) c.move_ticket.ensures here (c.is_same.ensures c.if-is_same.true args.day own))
-    ∙ stays args.rows.now args.marks.now args.i args.left c.requires.0 c.requires.1 args.day args.game args.cents
+    (same_stays args.rows.now args.marks.now args.i args.left c.requires.0 c.requires.1 args.payment.day args.payment.game args.payment.cents words marks
+    (ticket_from c.read_row-moved.result own) c.move_ticket.ensures here (c.is_nothing.ensures c.if-is_nothing.true own))
+    ∙ stays args.rows.now args.marks.now args.i args.left c.requires.0 c.requires.1 args.payment.day args.payment.game args.payment.cents
     c.read_row-row.result c.closes.result c.read_row-row.ensures c.closes.ensures c.if-closes.false
 
-pub paid_row-requires : goal.paid_row-requires
-paid_row-requires c =
+pub paid-requires : goal.paid-requires
+paid-requires c =
     let args = c.args in
     let here =
     moved_here args.rows.now args.marks.now args.i args.left c.requires.0 c.requires.1 c.move_ticket.new.rows c.move_ticket.new.marks
@@ -105,7 +105,7 @@ at_end : (c : goal.After-change_ticket) →
     let args = c.args in
     tickets_of c.change_ticket.new.rows c.move_ticket.new.marks
     ≡ set (tickets_of args.rows.now args.marks.now) args.left
-    (paid_ticket args.day args.game args.cents (ticket_in args.rows.now args.marks.now args.i))
+    (paid_ticket args.payment.day args.payment.game args.payment.cents (ticket_in args.rows.now args.marks.now args.i))
 at_end c =
     let args = c.args in
     let words = c.move_ticket.new.rows in
@@ -113,15 +113,15 @@ at_end c =
     let here =
     moved_here args.rows.now args.marks.now args.i args.left c.requires.0 c.requires.1 words marks c.read_row-moved.result
     c.move_ticket.ensures c.read_row-moved.ensures in
-    stored args.rows.now args.marks.now args.i args.left c.requires.0 c.requires.1 words marks c.change_ticket.new.rows c.paid_row.result
+    stored args.rows.now args.marks.now args.i args.left c.requires.0 c.requires.1 words marks c.change_ticket.new.rows c.paid.result
     _ c.move_ticket.ensures (c.change_ticket.ensures marks)
-    (c.paid_row.ensures (marks_at marks args.left) ∙ ap (paid_ticket args.day args.game args.cents) here)
+    (c.paid.ensures (marks_at marks args.left) ∙ ap (paid_ticket args.payment.day args.payment.game args.payment.cents) here)
 
 pub returns-clause-stay : goal.returns-clause-stay
 returns-clause-stay c =
     let args = c.args in
     ap (take (args.left + 1)) (at_end c)
-    ∙ stays args.rows.now args.marks.now args.i args.left c.requires.0 c.requires.1 args.day args.game args.cents
+    ∙ stays args.rows.now args.marks.now args.i args.left c.requires.0 c.requires.1 args.payment.day args.payment.game args.payment.cents
     c.read_row-row.result c.closes.result c.read_row-row.ensures c.closes.ensures c.if-closes.false
 
 pub returns-clause-rest : goal.returns-clause-rest
@@ -129,4 +129,4 @@ returns-clause-rest c =
     let args = c.args in
     ap (drop (args.i + 1)) (at_end c)
     ∙ rest_stays (tickets_of args.rows.now args.marks.now) args.left args.i c.requires.0
-    (long args.rows.now args.marks.now args.i args.left c.requires.0 c.requires.1) args.game _
+    (long args.rows.now args.marks.now args.i args.left c.requires.0 c.requires.1) args.payment.game _

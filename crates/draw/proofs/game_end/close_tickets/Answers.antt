@@ -13,14 +13,14 @@ use Rattle.draw.proofs.game_end.close_tickets.Goals as goal
 
 pub loop-i-init : goal.loop-i-init
 loop-i-init c =
-    (omega arith, omega arith, closed_none c.args.house.day (c.args.house.game + 1) c.args.rows.now c.args.marks.now c.args.awards.now, refl)
+    let args = c.args in
+    record { behind = omega arith; stay = closed_none args.house.day (args.house.game + 1) args.rows.now args.marks.now args.awards.now; rest = refl }
 
-pub close_ticket-now_left-requires : goal.close_ticket-now_left-requires
-close_ticket-now_left-requires c =
+pub close_ticket-left-requires : goal.close_ticket-left-requires
+close_ticket-left-requires c =
     let turn = c.loop-i in
-    let here = ticket_untouched c.args.rows.now c.args.marks.now turn.rows turn.marks turn.i turn.invariant.3 (omega (arith, c.loop-i-test.true, c.requires)) in
-    let room = c.requires.room turn.i c.loop-i-test.true in
-    (turn.invariant.0, omega (arith, c.loop-i-test.true, c.requires), omega (arith, room, ap (λ (t : Ticket). t.due) here))
+    let here = ticket_untouched c.args.rows.now c.args.marks.now turn.rows turn.marks turn.i turn.invariant.rest (omega arith) in
+    (turn.invariant.behind, omega arith, omega (arith, c.requires.room turn.i (omega arith), ap (λ (t : Ticket). t.due) here))
 
 pub loop-i-preserved : goal.loop-i-preserved
 loop-i-preserved c =
@@ -28,23 +28,24 @@ loop-i-preserved c =
     let args = c.args in
     let game = args.house.game + 1 in
     let cents = get_or args.awards.now turn.i 0 in
-    let here = ticket_untouched args.rows.now args.marks.now turn.rows turn.marks turn.i turn.invariant.3 (omega (arith, c.loop-i-test.true, c.requires)) in (
-      omega (arith, c.close_ticket-now_left.ensures.count, turn.invariant.0),
-      omega (arith, c.loop-i-test.true),
-      c.close_ticket-now_left.ensures.stay
-          ∙ ap₂ (λ (ts : List Ticket) (t : Ticket). ts ++ still_live game (paid_ticket args.house.day game cents t ∷ [])) turn.invariant.2 here
-          ∙ closed_more args.house.day game args.rows.now args.marks.now args.awards.now turn.i,
-      c.close_ticket-now_left.ensures.rest
-          ∙ rest_untouched args.rows.now args.marks.now turn.rows turn.marks turn.i turn.invariant.3,
-    )
+    let here = ticket_untouched args.rows.now args.marks.now turn.rows turn.marks turn.i turn.invariant.rest (omega arith) in
+    record {
+      behind = omega (arith, c.close_ticket-left.ensures.count);
+      stay =
+          c.close_ticket-left.ensures.stay
+          ∙ ap₂ (λ (ts : List Ticket) (t : Ticket). ts ++ still_live game (paid_ticket args.house.day game cents t ∷ [])) turn.invariant.stay here
+          ∙ closed_more args.house.day game args.rows.now args.marks.now args.awards.now turn.i;
+      rest =
+          c.close_ticket-left.ensures.rest
+          ∙ rest_untouched args.rows.now args.marks.now turn.rows turn.marks turn.i turn.invariant.rest;
+    }
 
 pub returns-clause-stay : goal.returns-clause-stay
 unfolding view
 returns-clause-stay c figures held =
-    let turn = c.loop-i in
     let args = c.args in
     let house = args.house in
-    let done : turn.i ≡ house.live = omega (arith, turn.invariant.1, c.loop-i-test.false) in
-    turn.invariant.2
+    let done : c.loop-i.i ≡ house.live = omega arith in
+    c.loop-i.invariant.stay
     ∙ ap (closed_up house.day (house.game + 1) args.rows.now args.marks.now args.awards.now) done
     ∙ closed_all house.day house.game args.rows.now args.marks.now args.awards.now figures house.live held

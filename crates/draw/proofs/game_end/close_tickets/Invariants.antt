@@ -1,5 +1,5 @@
 -- `draw::game_end::close_tickets` meets its contract: the first places hold those that stay of the tickets passed, and the rest are untouched.
-use Prim.Native.Nat.{◌≤◌, ◌-◌}
+use Prim.Native.Nat.{◌≤◌}
 use mathlib.Core.Path.{◌≡◌}
 use lib.ListN.{take, drop}
 use Rattle.house.specs.View.{tickets_of}
@@ -8,10 +8,8 @@ use Rattle.draw.proofs.game_end.close_tickets.Given as goal
 
 abbrev pub invariant-loop-i : goal.invariant-loop-i
 invariant-loop-i l =
-    (l.left ≤ l.i)
-    × (l.i ≤ l.live)
-    × (take l.left (tickets_of l.rows l.marks) ≡ closed_up l.day l.game l.initial.rows l.initial.marks l.awards l.i)
-    × (drop l.i (tickets_of l.rows l.marks) ≡ drop l.i (tickets_of l.initial.rows l.initial.marks))
-
-abbrev pub decreases-loop-i : goal.decreases-loop-i
-decreases-loop-i l = l.live - l.i
+    record {
+      behind : l.left ≤ l.i;
+      stay : take l.left (tickets_of l.rows l.marks) ≡ closed_up l.day l.game l.initial.rows l.initial.marks l.awards l.i;
+      rest : drop l.i (tickets_of l.rows l.marks) ≡ drop l.i (tickets_of l.initial.rows l.initial.marks);
+    }

@@ -45,16 +45,16 @@ after_game h ended words marks words' marks' awards b s f ends =
 
 pub settle-settlement-requires : goal.settle-settlement-requires
 settle-settlement-requires c =
-    record { reached = c.requires.reached; room = room (view c.args.house c.args.rows.now c.args.marks.now) c.args.draw c.requires }
+    record { reached = c.requires.reached; room = room (view c.args.house.now c.args.rows.now c.args.marks.now) c.args.draw c.requires }
 
 pub overflow_add-cents : goal.overflow_add-cents
 overflow_add-cents c =
-    let m = view c.args.house c.args.rows.now c.args.marks.now in
+    let m = view c.args.house.now c.args.rows.now c.args.marks.now in
     omega (arith, room m c.args.draw c.requires, c.settle-settlement.ensures.shares)
 
 pub overflow_add-cents-2 : goal.overflow_add-cents-2
 overflow_add-cents-2 c =
-    let m = view c.args.house c.args.rows.now c.args.marks.now in
+    let m = view c.args.house.now c.args.rows.now c.args.marks.now in
     omega (arith, room m c.args.draw c.requires, c.settle-settlement.ensures.shares, c.settle-settlement.ensures.prizes)
 
 -- ---- the end of the game
@@ -62,10 +62,10 @@ pub end_game-ended-requires : goal.end_game-ended-requires
 unfolding view
 end_game-ended-requires c =
     let args = c.args in
-    let m = view args.house args.rows.now args.marks.now in
+    let m = view args.house.now args.rows.now args.marks.now in
     let sure : Sure m = reached_sure m c.requires.reached in
-    let count = live_count args.house args.rows.now args.marks.now in
-    let dues = each_live args.house args.rows.now args.marks.now (λ (t : Ticket). t.due < 2 ^ 62) sure.dues in
+    let count = live_count args.house.now args.rows.now args.marks.now in
+    let dues = each_live args.house.now args.rows.now args.marks.now (λ (t : Ticket). t.due < 2 ^ 62) sure.dues in
     record {
       few = omega (arith, sure.few, count);
       game = omega (arith, sure.game);
@@ -76,13 +76,13 @@ pub with_settlement-requires : goal.with_settlement-requires
 unfolding view
 with_settlement-requires c =
     let args = c.args in
-    let m = view args.house args.rows.now args.marks.now in
+    let m = view args.house.now args.rows.now args.marks.now in
     let given = c.requires in
     let f = settled m args.draw c.settle-settlement.new.awards c.settle-settlement.result given.number c.settle-settlement.ensures given.drawn in
     let room = fit m args.draw given in
     let same =
     ap (λ (k : Model). k.counters)
-    (after_game args.house c.end_game-ended.result args.rows.now args.marks.now c.end_game-ended.new.rows c.end_game-ended.new.marks
+    (after_game args.house.now c.end_game-ended.result args.rows.now args.marks.now c.end_game-ended.new.rows c.end_game-ended.new.marks
     c.settle-settlement.new.awards given.number c.settle-settlement.result f c.end_game-ended.ensures) in
     record {
       seeds = omega (arith, room.seeds, f.seeds, ap (λ (k : Counters). k.seeds) same);
@@ -93,7 +93,7 @@ with_settlement-requires c =
 pub returns : goal.returns
 returns c b d =
     let args = c.args in
-    let m = view args.house args.rows.now args.marks.now in
+    let m = view args.house.now args.rows.now args.marks.now in
     let ended = c.end_game-ended.result in
     let rows = c.end_game-ended.new.rows in
     let marks = c.end_game-ended.new.marks in
@@ -101,9 +101,9 @@ returns c b d =
     let s = c.settle-settlement.result in
     let f = settled m args.draw awards s b c.settle-settlement.ensures d in
     let last = last_act m b d.last in
-    carried_done args.house args.rows.now args.marks.now (ball b) _ rows marks _ d.accepted
-    (ap (λ h. view h rows marks) (c.accepted.ensures.0 ∙ c.with_settlement.ensures)
-    ∙ settled_view args.house ended args.rows.now args.marks.now rows marks b awards s f
-    (after_game args.house ended args.rows.now args.marks.now rows marks awards b s f c.end_game-ended.ensures)
+    carried_done args.house.now args.rows.now args.marks.now (ball b) _ rows marks _ d.accepted
+    (ap (λ h. view h rows marks) c.with_settlement.ensures
+    ∙ settled_view args.house.now ended args.rows.now args.marks.now rows marks b awards s f
+    (after_game args.house.now ended args.rows.now args.marks.now rows marks awards b s f c.end_game-ended.ensures)
     ∙ sym last.0)
-    (c.accepted.ensures.1 ∙ ap answer_of (ap₂ (λ (p q : ℕ). replies 20 (p + q)) f.prizes f.shares ∙ sym (settled_reply m b) ∙ sym last.1))
+    (ap answer_of (ap₂ (λ (p q : ℕ). replies 20 (p + q)) f.prizes f.shares ∙ sym (settled_reply m b) ∙ sym last.1))

@@ -1,50 +1,31 @@
--- `prizes::found::find_way` meets its contract: a minor prize is sure as it is; of a major one the floor is sure, and the prize is stored.
-use mathlib.Core.Path.{◌≡◌, sym, ◌∙◌, subst}
-use mathlib.Core.Bool.{Bool, true, false, cond}
-use Prim.Native.Nat.{ℕ, ◌≤◌}
-use native.Mathlib.Omega.{arith}
-use borrow.Author.Tests.{leb-false}
-use lib.Dec.{eqb}
+-- `find_way` meets its contract: of each prize what is below the floor is sure, and a major prize is stored.
+use mathlib.Core.Path.{sym, ap, ◌∙◌, subst}
+use Prim.Native.Nat.{◌<◌, ◌^◌, min}
+use borrow.Author.Tests.{leb-true}
 use Rattle.prizes.specs.Prize.{major_floor, is_major}
-use Rattle.prizes.specs.Found.{size_in, hits_in}
-use Rattle.sale.proofs.WayLaws.{tally_le}
-use Rattle.prizes.proofs.FoundLaws.{way_minor, way_major}
+use Rattle.prizes.proofs.PrizeLaws.{prize_bound}
+use Rattle.prizes.proofs.FoundLaws.{way_minor, way_major, way_added}
 use Rattle.prizes.proofs.found.find_way.Goals as goal
 
--- one match at the most
-one : (t : Bool) {n : ℕ} → n ≡ cond t 1 0 → n ≤ 1
-one t e = subst (λ n. n ≤ 1) (sym e) (tally_le t)
+pub push-requires-clause-major : goal.push-requires-clause-major
+push-requires-clause-major c =
+    let t = c.args.walk.now.terms in
+    record {
+      large = leb-true major_floor c.prize_of-cents.result (sym c.is_major.ensures ∙ c.if-is_major.true);
+      small = subst (λ n. n < 2 ^ 40) (sym c.prize_of-cents.ensures) (prize_bound t.kind t.stake _ _ c.args.walk.now.sound.stake);
+    }
 
-pub add-requires : goal.add-requires
-add-requires c =
-    let small = leb-false major_floor c.prize_of-cents.result (sym c.is_major.ensures ∙ c.if-not-is_major.true) in (
-      omega (arith, c.requires.1.sure),
-      omega (arith, c.requires.1.full, one (eqb (hits_in c.args.pair) (size_in c.args.pair)) c.full_match-full.ensures),
-    )
+pub returns-then-is_major : goal.returns-then-is_major
+returns-then-is_major c =
+    let t = c.args.walk.now.terms in
+    let e = c.prize_of-cents.ensures in
+    way_major t c.args.pair (way_added t c.args.pair c.args.found.now c.add.ensures (c.min.ensures ∙ ap (λ n. min n major_floor) e) c.full_match.ensures)
+    (ap is_major (sym e) ∙ sym c.is_major.ensures ∙ c.if-is_major.true) c.push.ensures.count
+    (rw (← e) c.push.ensures.stored)
 
-pub returns-then-not-is_major : goal.returns-then-not-is_major
-returns-then-not-is_major c =
-    let found = c.prize_of-cents in
-    let args = c.args in
-    way_minor args.kind args.stake args.pair
-    (subst (λ n. is_major n ≡ false) found.ensures (sym c.is_major.ensures ∙ c.if-not-is_major.true))
-    (rw (← found.ensures, ← c.full_match-full.ensures) (c.add.ensures args.majors.now))
-
-pub add-requires-2 : goal.add-requires-2
-add-requires-2 c = (
-  omega (arith, c.requires.1.sure),
-  omega (arith, c.requires.1.full, one (eqb (hits_in c.args.pair) (size_in c.args.pair)) c.full_match-full.ensures),
-)
-
-pub store-requires : goal.store-requires
-store-requires c =
-    omega (arith, c.requires.1.majors, (c.add-2.ensures c.args.majors.now).count)
-
-pub returns : goal.returns
-returns c =
-    let found = c.prize_of-cents in
-    let args = c.args in
-    let sure = rw c.full_match-full.ensures at (c.add-2.ensures args.majors.now) in
-    let stored = rw found.ensures at c.store.ensures in
-    way_major args.kind args.stake args.pair
-    (subst (λ n. is_major n ≡ true) found.ensures (sym c.is_major.ensures ∙ c.if-not-is_major.false)) sure stored
+pub returns-else-is_major : goal.returns-else-is_major
+returns-else-is_major c =
+    let t = c.args.walk.now.terms in
+    let e = c.prize_of-cents.ensures in
+    way_minor t c.args.pair (way_added t c.args.pair c.args.found.now c.add.ensures (c.min.ensures ∙ ap (λ n. min n major_floor) e) c.full_match.ensures)
+    (ap is_major (sym e) ∙ sym c.is_major.ensures ∙ c.if-is_major.false)

@@ -1,10 +1,6 @@
--- `prizes::groups::hit_word` meets its contract. The loop's invariant: the word counts the marks of the first balls, a byte for each group.
-use Prim.Native.Nat.{◌-◌}
+-- `hit_word` meets its contract. The loop's invariant: the word counts the marks of the balls passed, a byte for each group.
 use Rattle.prizes.proofs.HitLaws.{Drawn}
 use Rattle.prizes.proofs.groups.hit_word.Given as goal
 
-abbrev pub invariant-loop-i : goal.invariant-loop-i
-invariant-loop-i l = Drawn l.marks l.balls l.i l.word
-
-abbrev pub decreases-loop-i : goal.decreases-loop-i
-decreases-loop-i l = 20 - l.i
+abbrev pub invariant-loop-ball : goal.invariant-loop-ball
+invariant-loop-ball l = Drawn l.marks l.fn.draw.balls l.ball-index l.word

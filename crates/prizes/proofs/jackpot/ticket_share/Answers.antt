@@ -23,17 +23,8 @@ share_of-requires c =
       few = omega arith;
     }
 
-pub overflow_mul-shares : goal.overflow_mul-shares
-overflow_mul-shares c = omega (arith, within c.requires c.share_of.ensures)
+pub overflow_mul-result : goal.overflow_mul-result
+overflow_mul-result c = omega (arith, within c.requires c.share_of.ensures)
 
 pub overflow_add-result : goal.overflow_add-result
 overflow_add-result c = omega (arith, within c.requires c.share_of.ensures)
-
-pub overflow_add-result-else-odd-count : goal.overflow_add-result-else-odd-count
-overflow_add-result-else-odd-count c = omega (arith, within c.requires c.share_of.ensures)
-
-pub returns-then-odd-count : goal.returns-then-odd-count
-returns-then-odd-count c = rw c.share_of.ensures (omega arith)
-
-pub returns-else-odd-count : goal.returns-else-odd-count
-returns-else-odd-count c = rw c.share_of.ensures (omega arith)

@@ -1,51 +1,50 @@
--- `prizes::majors::cut_below` meets its contract: the figures so far and those of the prizes still ahead are the whole.
-use mathlib.Core.List.{List}
-use Prim.Native.Nat.{ℕ, ◌≤◌}
+-- `majors::cut_below` meets its contract: the figures so far are those of the prizes passed.
+use mathlib.Core.Path.{refl, sym, ap, ◌∙◌}
+use Prim.Native.Nat.{◌+◌}
 use native.Mathlib.Omega.{arith}
-use lib.ListN.{length}
-use Rattle.prizes.specs.Rounds.{Listed}
-use Rattle.prizes.proofs.MajorLaws.{counted_none, counted_below, counted_above, counted_all, floored_few, rest_small}
+use lib.ListN.{take, get_or, length-take}
+use Rattle.sale.specs.Lists.{sum, keep}
+use Rattle.prizes.proofs.MajorLaws.{floored_more, shared_more, count_le, base_le, part_small}
 use Rattle.prizes.proofs.majors.cut_below.Goals as goal
-use Rattle.prizes.proofs.majors.cut_below.Goals.{then-cents-below, else-cents-below}
+use Rattle.prizes.proofs.majors.cut_below.Goals.{then-prize-below, else-prize-below}
 
--- the table has so many
-inside : (table : List ℕ) (count : ℕ) → Listed table count → count ≤ length table
-inside table count l = omega (arith, l.few, l.long)
+pub loop-prize-init : goal.loop-prize-init
+unfolding keep sum
+loop-prize-init c = record { floored = refl; shared = refl }
 
-pub loop-i-init : goal.loop-i-init
-loop-i-init c = counted_none c.args.below c.args.majors.now c.args.count
+pub overflow_add-count : goal.overflow_add-count
+overflow_add-count c =
+    let ps = c.args.prizes.now in
+    let turn = c.loop-prize in
+    omega (arith, turn.invariant.floored, count_le c.args.below (take turn.prize-index ps), length-take turn.prize-index ps, c.requires.few)
 
-pub bounds-majors-i : goal.bounds-majors-i
-bounds-majors-i c = omega (arith, c.requires.few)
+pub overflow_add-base : goal.overflow_add-base
+overflow_add-base c =
+    let ps = c.args.prizes.now in
+    let i = c.loop-prize.prize-index in
+    omega (
+      arith,
+      c.loop-prize.invariant.shared,
+      (shared_more c.args.below ps i c.loop-prize-test.true c.if-prize-below.false).1,
+      base_le c.args.below (take (i + 1) ps),
+      part_small ps c.requires (i + 1),
+    )
 
-pub overflow_add-floored : goal.overflow_add-floored
-overflow_add-floored c =
-    let table = c.args.majors.now in
-    let some = inside table c.args.count c.requires in
-    let more = counted_below c.args.below table c.args.count some c.loop-i.invariant c.loop-i-test.true c.if-cents-below.true in
-    omega (arith, c.requires.few, more.below, floored_few c.args.below table c.args.count some)
-
-pub overflow_add-rest : goal.overflow_add-rest
-overflow_add-rest c =
-    let table = c.args.majors.now in
-    let some = inside table c.args.count c.requires in
-    let more = counted_above c.args.below table c.args.count some c.loop-i.invariant c.loop-i-test.true c.if-cents-below.false in
-    omega (arith, more.above, rest_small table c.args.count c.requires c.args.below)
-
-pub loop-i-preserved : goal.loop-i-preserved
-loop-i-preserved c =
-    let table = c.args.majors.now in
-    let some = inside table c.args.count c.requires in
-    elim c.if-cents-below.branch [
-      | then-cents-below w ↦
-          rw (w.floored-is, w.rest-is)
-          (counted_below c.args.below table c.args.count some c.loop-i.invariant c.loop-i-test.true w.if-cents-below.true)
-      | else-cents-below w ↦
-          rw (w.floored-is, w.rest-is)
-          (counted_above c.args.below table c.args.count some c.loop-i.invariant c.loop-i-test.true w.if-cents-below.false)
+pub loop-prize-preserved : goal.loop-prize-preserved
+loop-prize-preserved c =
+    let ps = c.args.prizes.now in
+    let turn = c.loop-prize in
+    elim c.if-prize-below.branch [
+      | then-prize-below w ↦
+          let more = floored_more c.args.below ps turn.prize-index c.loop-prize-test.true w.if-prize-below.true in
+          record {
+            floored = w.count-is ∙ ap (λ n. n + 1) turn.invariant.floored ∙ sym more.0;
+            shared = w.base-is ∙ turn.invariant.shared ∙ sym more.1;
+          }
+      | else-prize-below w ↦
+          let more = shared_more c.args.below ps turn.prize-index c.loop-prize-test.true w.if-prize-below.false in
+          record {
+            floored = w.count-is ∙ turn.invariant.floored ∙ sym more.0;
+            shared = w.base-is ∙ ap (λ n. n + get_or ps turn.prize-index 0) turn.invariant.shared ∙ sym more.1;
+          }
     ]
-
-pub returns : goal.returns
-returns c =
-    let table = c.args.majors.now in
-    counted_all c.args.below table c.args.count (inside table c.args.count c.requires) c.loop-i.invariant c.loop-i-test.false

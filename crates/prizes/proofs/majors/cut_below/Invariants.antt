@@ -1,10 +1,12 @@
--- `prizes::majors::cut_below` meets its contract: the figures so far and those of the prizes still ahead are the whole.
-use Prim.Native.Nat.{◌-◌}
-use Rattle.prizes.proofs.MajorLaws.{Counted}
+-- `majors::cut_below` meets its contract: the figures so far are those of the prizes passed.
+use lib.ListN.{take}
+use mathlib.Core.Path.{◌≡◌}
+use Rattle.prizes.specs.Rounds.{cut_below}
 use Rattle.prizes.proofs.majors.cut_below.Given as goal
 
-abbrev pub invariant-loop-i : goal.invariant-loop-i
-invariant-loop-i l = Counted l.below l.majors l.count l.i l.floored l.rest
-
-abbrev pub decreases-loop-i : goal.decreases-loop-i
-decreases-loop-i l = l.count - l.i
+abbrev pub invariant-loop-prize : goal.invariant-loop-prize
+invariant-loop-prize l =
+    record {
+      floored : l.count ≡ (cut_below l.below (take l.prize-index l.prizes)).count;
+      shared : l.base ≡ (cut_below l.below (take l.prize-index l.prizes)).base;
+    }

@@ -1,10 +1,9 @@
--- `prizes::majors::last_round` meets its contract: each turn is a round of the rule, on a state that the rule comes to, and floors more or is the
+-- `majors::last_round` meets its contract: each turn is a round of the rule, on a state that the rule comes to, and floors more or is the
 -- last. The measure is the number of prizes that are not floored.
 use mathlib.Core.List.{List}
 use mathlib.Core.Path.{◌≡◌, sym, ap, subst, ◌∙◌}
 use Prim.Native.Nat.{ℕ, ◌<◌}
 use native.Mathlib.Omega.{arith}
-use lib.ListN.{take}
 use Rattle.prizes.specs.Cut.{majors_limit}
 use Rattle.prizes.specs.Bounds.{Cuttable}
 use Rattle.prizes.specs.Rounds.{next_below, cut_below}
@@ -15,9 +14,9 @@ use Rattle.prizes.proofs.majors.last_round.Goals as goal
 pub loop-cut-init : goal.loop-cut-init
 loop-cut-init c l =
     let args = c.args in
-    subst (λ (x : Cut). Follows args.majors.now args.count l x × Cuttable x) (sym c.first-cut.ensures) (
-      first_follows args.majors.now args.count l args.total c.requires.1.total,
-      record { small = omega (arith, c.requires.1.total, total_small args.majors.now args.count l) },
+    subst (λ (x : Cut). Follows args.prizes.now l x × Cuttable x) (sym c.first-cut.ensures) (
+      first_follows args.prizes.now l args.total c.requires.1.total,
+      record { small = omega (arith, c.requires.1.total, total_small args.prizes.now l) },
     )
 
 pub next_below-requires : goal.next_below-requires
@@ -34,24 +33,24 @@ pub returns-then-next-cut : goal.returns-then-next-cut
 returns-then-next-cut c =
     let turn = c.loop-cut in
     let args = c.args in
-    let same = round (take args.count args.majors.now) turn.cut c.cut_below-next.result c.cut_below-next.ensures c.next_below.ensures in
-    last_pays args.majors.now args.count c.requires.0 turn.cut (turn.invariant c.requires.0).0 c.cut_below-next.result same
+    let same = round args.prizes.now turn.cut c.cut_below-next.result c.cut_below-next.ensures c.next_below.ensures in
+    last_pays args.prizes.now c.requires.0 turn.cut (turn.invariant c.requires.0).0 c.cut_below-next.result same
     (subst (λ n. majors_limit < n) c.requires.1.total c.requires.1.past) c.if-next-cut.true
 
 pub loop-cut-smaller : goal.loop-cut-smaller
 loop-cut-smaller c =
     let turn = c.loop-cut in
     let args = c.args in
-    let same = round (take args.count args.majors.now) turn.cut c.cut_below-next.result c.cut_below-next.ensures c.next_below.ensures in
-    let grows = round_grows args.majors.now args.count c.requires.0 turn.cut (turn.invariant c.requires.0).0 c.cut_below-next.result same c.if-next-cut.false in
+    let same = round args.prizes.now turn.cut c.cut_below-next.result c.cut_below-next.ensures c.next_below.ensures in
+    let grows = round_grows args.prizes.now c.requires.0 turn.cut (turn.invariant c.requires.0).0 c.cut_below-next.result same c.if-next-cut.false in
     omega (arith, grows.0, grows.1)
 
 pub loop-cut-preserved : goal.loop-cut-preserved
 loop-cut-preserved c l =
     let turn = c.loop-cut in
     let args = c.args in
-    let same = round (take args.count args.majors.now) turn.cut c.cut_below-next.result c.cut_below-next.ensures c.next_below.ensures in (
-      round_follows args.majors.now args.count l turn.cut (turn.invariant l).0 c.cut_below-next.result same,
+    let same = round args.prizes.now turn.cut c.cut_below-next.result c.cut_below-next.ensures c.next_below.ensures in (
+      round_follows args.prizes.now l turn.cut (turn.invariant l).0 c.cut_below-next.result same,
       subst Cuttable (sym same)
-          (record { small = omega (arith, rest_small args.majors.now args.count l (next_below turn.cut)) }),
+          (record { small = omega (arith, rest_small args.prizes.now l (next_below turn.cut)) }),
     )

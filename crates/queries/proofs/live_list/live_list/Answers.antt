@@ -10,7 +10,7 @@ overflow_mul-live c = omega (arith, rows_few c.args.house c.args.rows.now c.requ
 pub returns-then-out-live : goal.returns-then-out-live
 returns-then-out-live c = λ marks.
     let args = c.args in
-    listing_refused args.house args.rows.now c.requires marks args.out.now c.if-out-live.true
+    rw c.from.ensures (listing_refused args.house args.rows.now c.requires marks args.out.now c.if-out-live.true)
 
 pub write_numbers-requires : goal.write_numbers-requires
 write_numbers-requires c =

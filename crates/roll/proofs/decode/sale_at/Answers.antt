@@ -4,5 +4,5 @@ use Rattle.roll.proofs.decode.sale_at.Goals as goal
 
 pub returns : goal.returns
 returns c = λ n room.
-    sale_in_lem n room c.args.feature c.args.roll.now c.args.at c.read_u32-stake.result
-    c.read_u32-stake.ensures
+    sale_in_lem n room c.args.feature c.args.roll.now c.args.at c.read_number-stake.result
+    c.read_number-stake.ensures.number

@@ -19,10 +19,8 @@ use Rattle.roll.specs.Decode.{marks_in, record_of}
 use Rattle.roll.specs.Reading.{Reading}
 use Rattle.roll.specs.Orders.{stop_of, reading_of, Reported}
 use Rattle.roll.specs.declared.reader.Report.{Report}
-use Rattle.roll.specs.declared.decode.Decoded.TheVariants.{Stop}
 use Rattle.roll.proofs.DecodeLaws.{Stands, stands, size_apart}
-use Rattle.roll.proofs.AnswerBounds.{refused_plain}
-use Rattle.roll.proofs.ReadingLaws.{Quiet, Ahead, Ended, refused_here, ahead_stops, ahead_full, ahead_more, command_within, part_written, book_long, record_long, verdict_accepted, verdict_refused}
+use Rattle.roll.proofs.ReadingLaws.{Quiet, Ahead, Ended, refused_here, ahead_stops, ahead_full, ahead_more, command_within, part_written, book_long, record_long}
 use Rattle.roll.proofs.reader.read_roll.Goals as goal
 
 -- the report at the end
@@ -45,109 +43,73 @@ module _ (quiet : Type 0) (whole : Reading) (m : Model) (roll book : List ℕ) (
   fits = omega (arith, ahead.room)
 
   -- where nothing was to be accepted, neither is this command
-  not_accepted : quiet → (code : ℕ) → code ≡ (step m (meant order marks)).answer.code → code ≡ 0 → ⊥
-  not_accepted q code same zero = refused_here quiet whole m roll book read answers ahead order size s marks fits lent q (sym same ∙ zero)
+  not_accepted : quiet → (step m (meant order marks)).answer.code ≡ 0 → ⊥
+  not_accepted q zero = refused_here quiet whole m roll book read answers ahead order size s marks fits lent q zero
 
-  module _ (a : Answer) (h : Model) (last : List ℕ) (answer : a ≡ (step m (meant order marks)).answer) (house : h ≡ (step m (meant order marks)).house)
-      (written : last ≡ record_of (get_or roll read 0) a ++ drop 14 (take (length book - done) (drop done book))) where
-    text : put_mid done (length book - done) book last ≡ take done book ++ (record_of (get_or roll read 0) a ++ drop 14 (drop done book))
-    text = part_written book (record_of (get_or roll read 0) a) done (record_long (get_or roll read 0) a) fits last written
+  module _ (h : Model) (last : List ℕ) (house : h ≡ (step m (meant order marks)).house)
+      (written : last ≡ record_of (get_or roll read 0) (step m (meant order marks)).answer ++ drop 14 (take (length book - done) (drop done book))) where
+    abbrev answer : Answer
+    answer = (step m (meant order marks)).answer
+
+    text : put_mid done (length book - done) book last ≡ take done book ++ (record_of (get_or roll read 0) answer ++ drop 14 (drop done book))
+    text = part_written book (record_of (get_or roll read 0) answer) done (record_long (get_or roll read 0) answer) fits last written
 
     answered_once : Ahead quiet whole h roll (put_mid done (length book - done) book last) (read + size) (answers + 1)
     answered_once =
         subst (λ x. Ahead quiet whole x roll (put_mid done (length book - done) book last) (read + size) (answers + 1)) (sym house)
-        (ahead_more quiet whole m roll book read answers ahead order size s marks fits lent (put_mid done (length book - done) book last)
-        (text ∙ ap (λ b. take done book ++ (record_of (get_or roll read 0) b ++ drop 14 (drop done book))) answer))
+        (ahead_more quiet whole m roll book read answers ahead order size s marks fits lent (put_mid done (length book - done) book last) text)
 
     as_long : length (put_mid done (length book - done) book last) ≡ length book
-    as_long = ap length text ∙ book_long book (record_of (get_or roll read 0) a) done (record_long (get_or roll read 0) a) fits
+    as_long = ap length text ∙ book_long book (record_of (get_or roll read 0) answer) done (record_long (get_or roll read 0) answer) fits
 
 pub returns-in_default : goal.returns-in_default
 returns-in_default c =
-    let inv = c.loop-command.invariant in
-    let code = c.stop_code-stop.ensures ∙ ap stop_of c.in_default.is in
+    let inv = c.loop-order.invariant in
     reported _ _ _ _ _ _ _ _ _ inv.same
-    (ahead_stops _ _ _ _ _ _ _ inv.ahead c.stop_code-stop.result (sym c.decode-decoded.ensures ∙ c.in_default.is ∙ ap Stop (sym code)))
+    (ahead_stops _ _ _ _ _ _ _ inv.ahead _ _ (c.stop_code.ensures ∙ ap stop_of c.in_default.is) (sym c.decode-decoded.ensures ∙ c.in_default.is))
 
 pub returns-then-book-written-lt14 : goal.returns-then-book-written-lt14
 returns-then-book-written-lt14 c =
-    let inv = c.loop-command.invariant in
-    let s = stands _ c.in-Whole.command c.in-Whole.size (sym c.decode-decoded.ensures ∙ c.in-Whole.is) in
-    reported _ _ _ _ _ _ _ _ _ inv.same (ahead_full _ _ _ _ _ _ _ inv.ahead _ _ s (omega (arith, inv.ahead.room)))
+    let inv = c.loop-order.invariant in
+    let s = stands _ c.in-Ok.order (sym c.decode-decoded.ensures ∙ c.in-Ok.is) in
+    reported _ _ _ _ _ _ _ _ _ inv.same (ahead_full _ _ _ _ _ _ _ inv.ahead _ _ s _ c.from.ensures (omega (arith, inv.ahead.room)))
 
 pub bounds-roll-read : goal.bounds-roll-read
 bounds-roll-read c =
-    let s = stands _ c.in-Whole.command c.in-Whole.size (sym c.decode-decoded.ensures ∙ c.in-Whole.is) in
-    let within = command_within _ _ _ _ _ _ _ c.loop-command.invariant.ahead _ _ s in
+    let s = stands _ c.in-Ok.order (sym c.decode-decoded.ensures ∙ c.in-Ok.is) in
+    let within = command_within _ _ _ _ _ _ _ c.loop-order.invariant.ahead _ _ s in
     omega (arith, s.long)
 
-pub marks_of-from-requires : goal.marks_of-from-requires
-marks_of-from-requires c =
-    let s = stands _ c.in-Whole.command c.in-Whole.size (sym c.decode-decoded.ensures ∙ c.in-Whole.is) in
-    (size_apart s, command_within _ _ _ _ _ _ _ c.loop-command.invariant.ahead _ _ s)
+pub marks_of-requires : goal.marks_of-requires
+marks_of-requires c =
+    let s = stands _ c.in-Ok.order (sym c.decode-decoded.ensures ∙ c.in-Ok.is) in
+    (size_apart s, command_within _ _ _ _ _ _ _ c.loop-order.invariant.ahead _ _ s)
 
 pub overflow_add-read : goal.overflow_add-read
 overflow_add-read c =
-    let s = stands _ c.in-Whole.command c.in-Whole.size (sym c.decode-decoded.ensures ∙ c.in-Whole.is) in
-    let within = command_within _ _ _ _ _ _ _ c.loop-command.invariant.ahead _ _ s in
+    let s = stands _ c.in-Ok.order (sym c.decode-decoded.ensures ∙ c.in-Ok.is) in
+    let within = command_within _ _ _ _ _ _ _ c.loop-order.invariant.ahead _ _ s in
     omega arith
 
-pub loop-command-smaller-in_default-verdict_of : goal.loop-command-smaller-in_default-verdict_of
-loop-command-smaller-in_default-verdict_of c =
-    let s = stands _ c.in-Whole.command c.in-Whole.size (sym c.decode-decoded.ensures ∙ c.in-Whole.is) in
-    let within = command_within _ _ _ _ _ _ _ c.loop-command.invariant.ahead _ _ s in
+pub loop-order-smaller : goal.loop-order-smaller
+loop-order-smaller c =
+    let s = stands _ c.in-Ok.order (sym c.decode-decoded.ensures ∙ c.in-Ok.is) in
+    let within = command_within _ _ _ _ _ _ _ c.loop-order.invariant.ahead _ _ s in
     omega (arith, s.long)
 
-pub loop-command-smaller : goal.loop-command-smaller
-loop-command-smaller c =
-    let s = stands _ c.in-Whole.command c.in-Whole.size (sym c.decode-decoded.ensures ∙ c.in-Whole.is) in
-    let within = command_within _ _ _ _ _ _ _ c.loop-command.invariant.ahead _ _ s in
-    omega (arith, s.long)
-
-pub loop-command-preserved-in_default-verdict_of : goal.loop-command-preserved-in_default-verdict_of
-loop-command-preserved-in_default-verdict_of c =
-    let inv = c.loop-command.invariant in
-    let carried = c.carry_out-outcome.ensures in
-    let a = c.carry_out-outcome.result.answer in
-    let lent = c.marks_of-from.ensures in
-    let s = stands _ c.in-Whole.command c.in-Whole.size (sym c.decode-decoded.ensures ∙ c.in-Whole.is) in
-    let code = verdict_refused a _ (sym c.verdict_of.ensures ∙ c.in_default-verdict_of.is) in
-    let plain = refused_plain _ _ a carried.answer code in
+pub loop-order-preserved : goal.loop-order-preserved
+loop-order-preserved c =
+    let inv = c.loop-order.invariant in
+    let done = c.answer_order.ensures in
+    let lent = c.marks_of.ensures in
+    let s = stands _ c.in-Ok.order (sym c.decode-decoded.ensures ∙ c.in-Ok.is) in
     record {
-      reached = subst Reached (sym carried.house) (reached_step _ _ inv.reached);
+      reached = subst Reached (sym done.house) (reached_step _ _ inv.reached);
       ahead =
-          answered_once _ _ _ _ _ _ _ inv.ahead _ _ s _ c.if-book-written-lt14.false lent (record { code = a.code; number = 0; cents = 0 }) _ _
-          (plain ∙ carried.answer) carried.house c.write_record.ensures;
-      long =
-          as_long _ _ _ _ _ _ _ inv.ahead _ _ s _ c.if-book-written-lt14.false lent (record { code = a.code; number = 0; cents = 0 }) _ _
-          (plain ∙ carried.answer) carried.house c.write_record.ensures ∙ inv.long;
+          answered_once _ _ _ _ _ _ _ inv.ahead _ _ s _ c.if-book-written-lt14.false lent _ _ done.house done.written;
+      long = as_long _ _ _ _ _ _ _ inv.ahead _ _ s _ c.if-book-written-lt14.false lent _ _ done.house done.written ∙ inv.long;
       same = λ q.
-          let kept = carried.refused code in
-          let before = inv.same q in
-          (kept.0 ∙ before.0, kept.1 ∙ before.1, kept.2 ∙ before.2);
-    }
-
-pub loop-command-preserved : goal.loop-command-preserved
-loop-command-preserved c =
-    let inv = c.loop-command.invariant in
-    let carried = c.carry_out-outcome.ensures in
-    let a = c.carry_out-outcome.result.answer in
-    let lent = c.marks_of-from.ensures in
-    let s = stands _ c.in-Whole.command c.in-Whole.size (sym c.decode-decoded.ensures ∙ c.in-Whole.is) in
-    let number = c.in-Accepted.number in
-    let cents = c.in-Accepted.cents in
-    let given = verdict_accepted a number cents (sym c.verdict_of.ensures ∙ c.in-Accepted.is) in
-    record {
-      reached = subst Reached (sym carried.house) (reached_step _ _ inv.reached);
-      ahead =
-          answered_once _ _ _ _ _ _ _ inv.ahead _ _ s _ c.if-book-written-lt14.false lent (record { code = 0; number = number; cents = cents }) _ _
-          (given ∙ carried.answer) carried.house c.write_record-in-loop-command.ensures;
-      long =
-          as_long _ _ _ _ _ _ _ inv.ahead _ _ s _ c.if-book-written-lt14.false lent (record { code = 0; number = number; cents = cents }) _ _
-          (given ∙ carried.answer) carried.house c.write_record-in-loop-command.ensures ∙ inv.long;
-      same = λ q.
-          let code = not_accepted _ _ _ _ _ _ _ inv.ahead _ _ s _ c.if-book-written-lt14.false lent q a.code (ap (λ x. x.code) carried.answer) in
-          let kept = carried.refused code in
+          let kept = done.refused (not_accepted _ _ _ _ _ _ _ inv.ahead _ _ s _ c.if-book-written-lt14.false lent q) in
           let before = inv.same q in
           (kept.0 ∙ before.0, kept.1 ∙ before.1, kept.2 ∙ before.2);
     }

@@ -9,8 +9,8 @@ use Rattle.roll.specs.Orders.{reading_of}
 use Rattle.roll.proofs.ReadingLaws.{Ahead, Quiet}
 use Rattle.roll.proofs.reader.read_roll.Given as goal
 
-abbrev pub invariant-loop-command : goal.invariant-loop-command
-invariant-loop-command l =
+abbrev pub invariant-loop-order : goal.invariant-loop-order
+invariant-loop-order l =
     let old = l.initial in
     let quiet = Quiet old.here old.rows old.marks l.roll old.book in
     record {
@@ -20,5 +20,5 @@ invariant-loop-command l =
       same : quiet → (l.here ≡ old.here) × (l.rows ≡ old.rows) × (l.marks ≡ old.marks);
     }
 
-abbrev pub decreases-loop-command : goal.decreases-loop-command
-decreases-loop-command l = length l.roll - l.read
+abbrev pub decreases-loop-order : goal.decreases-loop-order
+decreases-loop-order l = length l.roll - l.read

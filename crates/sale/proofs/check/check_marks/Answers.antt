@@ -1,4 +1,4 @@
--- `check_marks` meets its contract: each return is at the row that the tests before it lead to. Assumes nothing.
+-- Each return is at the row that the tests before it lead to.
 use mathlib.Core.Path.{◌≡◌, sym, ap, ◌∙◌}
 use mathlib.Core.Bool.{true, not, ◌&&◌}
 use mathlib.Core.List.{[]}
@@ -28,24 +28,24 @@ module _ (o : Operands) where
 
 pub returns-then-sale-gt3 : goal.returns-then-sale-gt3
 returns-then-sale-gt3 c =
-    record { code = sym (row_met _ 7 _ (ap not (lt-leb _ _ c.if-sale-gt3.true))); passed = λ none. absurd (omega arith) }
+    record { code = sym (row_met _ 7 _ (ap not (lt-leb _ _ c.if-sale-gt3.true))); passed = tt }
 
-pub returns-then-not-between : goal.returns-then-not-between
-returns-then-not-between c =
+pub returns-then-not-is_within : goal.returns-then-not-is_within
+returns-then-not-is_within c =
     let o = operands_of c.args.sale c.args.marks.now in
     record {
-      code = sym (past_1 o c.if-sale-gt3.false ∙ row_met _ 8 _ (ap not (sym c.between.ensures ∙ c.if-not-between.true)));
-      passed = λ none. absurd (omega arith);
+      code = sym (past_1 o c.if-sale-gt3.false ∙ row_met _ 8 _ (ap not (sym c.is_within.ensures ∙ c.if-not-is_within.true)));
+      passed = tt;
     }
 
-pub returns-then-not-between-2 : goal.returns-then-not-between-2
-returns-then-not-between-2 c =
+pub returns-then-not-is_within-2 : goal.returns-then-not-is_within-2
+returns-then-not-is_within-2 c =
     let o = operands_of c.args.sale c.args.marks.now in
     record {
       code =
-          sym (past_2 o c.if-sale-gt3.false (sym c.between.ensures ∙ c.if-not-between.false)
-          ∙ row_met _ 9 _ (ap not (sym c.between-2.ensures ∙ c.if-not-between-2.true)));
-      passed = λ none. absurd (omega arith);
+          sym (past_2 o c.if-sale-gt3.false (sym c.is_within.ensures ∙ c.if-not-is_within.false)
+          ∙ row_met _ 9 _ (ap not (sym c.is_within-2.ensures ∙ c.if-not-is_within-2.true)));
+      passed = tt;
     }
 
 pub returns-then-marks-ne80 : goal.returns-then-marks-ne80
@@ -53,24 +53,24 @@ returns-then-marks-ne80 c =
     let o = operands_of c.args.sale c.args.marks.now in
     record {
       code =
-          sym (past_3 o c.if-sale-gt3.false (sym c.between.ensures ∙ c.if-not-between.false) (sym c.between-2.ensures ∙ c.if-not-between-2.false)
+          sym (past_3 o c.if-sale-gt3.false (sym c.is_within.ensures ∙ c.if-not-is_within.false) (sym c.is_within-2.ensures ∙ c.if-not-is_within-2.false)
           ∙ row_met _ 10 _ (ap not (marks_few o.groups o.marks c.if-marks-ne80.true)));
-      passed = λ none. absurd (omega arith);
+      passed = tt;
     }
 
 pub groups_fit-requires : goal.groups_fit-requires
-groups_fit-requires c = record { few = within_le 1 c.args.sale.groups 8 (sym c.between-2.ensures ∙ c.if-not-between-2.false) }
+groups_fit-requires c = record { few = within_le 1 c.args.sale.groups 8 (sym c.is_within-2.ensures ∙ c.if-not-is_within-2.false) }
 
 pub returns-then-not-groups_fit : goal.returns-then-not-groups_fit
 returns-then-not-groups_fit c =
     let o = operands_of c.args.sale c.args.marks.now in
     record {
       code =
-          sym (past_3 o c.if-sale-gt3.false (sym c.between.ensures ∙ c.if-not-between.false) (sym c.between-2.ensures ∙ c.if-not-between-2.false)
+          sym (past_3 o c.if-sale-gt3.false (sym c.is_within.ensures ∙ c.if-not-is_within.false) (sym c.is_within-2.ensures ∙ c.if-not-is_within-2.false)
           ∙ row_met _ 10 _
           (ap not
           (sym (c.groups_fit.ensures ∙ marks_by_groups o.groups o.marks c.if-marks-ne80.false c.group_sizes-sizes.ensures) ∙ c.if-not-groups_fit.true)));
-      passed = λ none. absurd (omega arith);
+      passed = tt;
     }
 
 pub returns : goal.returns
@@ -79,14 +79,14 @@ returns c =
     let o = operands_of c.args.sale c.args.marks.now in
     record {
       code =
-          sym (past_3 o c.if-sale-gt3.false (sym c.between.ensures ∙ c.if-not-between.false) (sym c.between-2.ensures ∙ c.if-not-between-2.false)
+          sym (past_3 o c.if-sale-gt3.false (sym c.is_within.ensures ∙ c.if-not-is_within.false) (sym c.is_within-2.ensures ∙ c.if-not-is_within-2.false)
           ∙ row_passed _ 10 []
           (ap not
           (sym (c.groups_fit.ensures ∙ marks_by_groups o.groups o.marks c.if-marks-ne80.false c.group_sizes-sizes.ensures) ∙ c.if-not-groups_fit.false)));
-      passed = λ none.
+      passed =
           record {
             same = c.group_sizes-sizes.ensures;
-            groups = record { few = within_le 1 c.args.sale.groups 8 (sym c.between-2.ensures ∙ c.if-not-between-2.false) };
+            groups = record { few = within_le 1 c.args.sale.groups 8 (sym c.is_within-2.ensures ∙ c.if-not-is_within-2.false) };
             bytes =
                 record { small = λ k. rw c.group_sizes-sizes.ensures (omega (arith, figure_le c.args.marks.now k, c.if-marks-ne80.false)) };
           };

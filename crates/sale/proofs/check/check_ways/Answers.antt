@@ -1,10 +1,8 @@
--- `check_ways` meets its contract: each return is at the row that the tests before it lead to, for the operands whose sizes and kind it is given.
--- Assumes nothing.
+-- Each return is at the row that the tests before it lead to, for the operands whose sizes and kind it is given.
 use mathlib.Core.Path.{◌≡◌, sym, ap, ap₂, ◌∙◌}
 use mathlib.Core.Bool.{Bool, true, not, ◌&&◌, ◌||◌}
 use mathlib.Core.List.{List, []}
 use Prim.Native.Nat.{ℕ, ◌^◌}
-use native.Mathlib.Omega.{arith}
 use lib.Dec.{leb, eqb}
 use lib.ListN.{drop}
 use borrow.Author.Tests.{not-true, not-false}
@@ -48,7 +46,7 @@ pub returns-then-not-types_fit : goal.returns-then-not-types_fit
 returns-then-not-types_fit c = λ marks given kind.
     record {
       code = sym (row_met _ 11 _ (not-false _ (sym c.types_fit.ensures ∙ c.if-not-types_fit.true)));
-      passed = λ none. absurd (omega arith);
+      passed = tt;
     }
 
 pub returns-then-not-suits : goal.returns-then-not-suits
@@ -58,18 +56,18 @@ returns-then-not-suits c = λ marks given kind.
       code =
           sym (past_1 o c.types_fit.ensures c.if-not-types_fit.false
           ∙ row_met _ 12 _ (ap not (sym (sizes_test o given kind c.survey_ways-survey.ensures c.suits.ensures) ∙ c.if-not-suits.true)));
-      passed = λ none. absurd (omega arith);
+      passed = tt;
     }
 
-pub returns-then-lone_special : goal.returns-then-lone_special
-returns-then-lone_special c = λ marks given kind.
+pub returns-then-is_single_special : goal.returns-then-is_single_special
+returns-then-is_single_special c = λ marks given kind.
     let o = operands_of c.args.sale marks in
     record {
       code =
           sym (past_1 o c.types_fit.ensures c.if-not-types_fit.false
           ∙ past_2 o (sizes_test o given kind c.survey_ways-survey.ensures c.suits.ensures) c.if-not-suits.false
-          ∙ row_met _ 13 _ (sym (lone_test o given kind c.survey_ways-survey.ensures c.lone_special.ensures) ∙ c.if-lone_special.true));
-      passed = λ none. absurd (omega arith);
+          ∙ row_met _ 13 _ (sym (lone_test o given kind c.survey_ways-survey.ensures c.is_single_special.ensures) ∙ c.if-is_single_special.true));
+      passed = tt;
     }
 
 pub returns : goal.returns
@@ -80,6 +78,6 @@ returns c = λ marks given kind.
       code =
           sym (past_1 o c.types_fit.ensures c.if-not-types_fit.false
           ∙ past_2 o (sizes_test o given kind c.survey_ways-survey.ensures c.suits.ensures) c.if-not-suits.false
-          ∙ row_passed _ 13 [] (sym (lone_test o given kind c.survey_ways-survey.ensures c.lone_special.ensures) ∙ c.if-lone_special.false));
-      passed = λ none. looked o given kind c.survey_ways-survey.ensures;
+          ∙ row_passed _ 13 [] (sym (lone_test o given kind c.survey_ways-survey.ensures c.is_single_special.ensures) ∙ c.if-is_single_special.false));
+      passed = looked o given kind c.survey_ways-survey.ensures;
     }

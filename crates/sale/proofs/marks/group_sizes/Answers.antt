@@ -1,4 +1,4 @@
--- `group_sizes` meets its contract. The loop's invariant: the counts are the groups' sizes among the marks passed. Assumes nothing.
+-- The counts are the groups' sizes among the marks passed, no more than there are marks.
 use mathlib.Core.Path.{sym}
 use native.Mathlib.Omega.{arith}
 use native.Mathlib.Numerals.{add-one}
@@ -7,32 +7,18 @@ use lib.Seq.{take-suc, take_all}
 use Rattle.sale.proofs.MarkLaws.{none_counted, figure_le}
 use Rattle.sale.proofs.marks.group_sizes.Goals as goal
 
-pub loop-i-init : goal.loop-i-init
-loop-i-init c = (omega arith, sym none_counted)
+pub count_mark-requires : goal.count_mark-requires
+count_mark-requires c =
+    let passed = take c.loop-mark.mark-index c.args.marks.now in
+    record { room = λ k. rw c.loop-mark.invariant (omega (arith, figure_le passed k, length-take c.loop-mark.mark-index c.args.marks.now)) }
 
-pub bounds-marks-i : goal.bounds-marks-i
-bounds-marks-i c = omega arith
+pub loop-mark-init : goal.loop-mark-init
+loop-mark-init c = sym none_counted
 
-pub with_mark-next-requires : goal.with_mark-next-requires
-with_mark-next-requires c =
-    let marks = c.args.marks.now in
-    let i = c.loop-i.i in
-    record { room = λ k. rw c.loop-i.invariant.1 (omega (arith, figure_le (take i marks) k, length-take i marks)) }
-
-pub overflow_add-i : goal.overflow_add-i
-overflow_add-i c = omega arith
-
-pub loop-i-smaller : goal.loop-i-smaller
-loop-i-smaller c = omega arith
-
-pub loop-i-preserved : goal.loop-i-preserved
-loop-i-preserved c =
-    let marks = c.args.marks.now in
-    let i = c.loop-i.i in (
-      omega arith,
-      rw (add-one, take-suc marks i 0 c.loop-i-test.true)
-          (c.with_mark-next.ensures (take i marks) c.loop-i.invariant.1),
-    )
+pub loop-mark-preserved : goal.loop-mark-preserved
+loop-mark-preserved c =
+    rw (add-one, take-suc c.args.marks.now c.loop-mark.mark-index 0 c.loop-mark-test.true)
+    (c.count_mark.ensures (take c.loop-mark.mark-index c.args.marks.now) c.loop-mark.invariant)
 
 pub returns : goal.returns
-returns c = rw (take_all _ _ c.loop-i-test.false) at c.loop-i.invariant.1
+returns c = rw (take_all _ _ c.loop-mark-test.false) at c.loop-mark.invariant

@@ -9,7 +9,8 @@ use native.Mathlib.Nat.{pos_of_ne-zero}
 use lib.Count.{ones}
 use Rattle.sale.specs.Bounds.{AddedUp}
 use Rattle.sale.specs.Ways.{nominated, mask_sum}
-use Rattle.sale.specs.Passes.{sizes_from, survey_from, survey_in, Unfilled}
+use Rattle.sale.specs.Passes.{sizes_from, survey_from, Unfilled}
+use Rattle.sale.specs.declared.survey.Survey.{Survey}
 use Rattle.sale.proofs.WayLaws.{place_end, place_with, place_without, carried_with, carried_without, carried_all}
 use Rattle.sale.proofs.WalkLaws.{none_here, map_end, map_step}
 use Rattle.sale.proofs.SurveyLaws.{survey_both, unfilled_first, unfilled_second}
@@ -27,15 +28,15 @@ module _ (types : ℕ) (sizes : List ℕ) (mask : ℕ) {left : ℕ} where
       → sizes_from types sizes left mask ≡ sizes_from types sizes (left - 1) (mask * 2) ++ sizes_from types sizes (left - 1) (mask * 2 + 1)
   parts some = map_step (λ k. mask_sum k sizes) types mask some
 
-  room : {table : List ℕ} → (left ≡ 0 → ⊥) → Unfilled (sizes_from types sizes left mask) table
-      → Unfilled (sizes_from types sizes (left - 1) (mask * 2) ++ sizes_from types sizes (left - 1) (mask * 2 + 1)) table
-  room {table} some u = subst (λ (l : List ℕ). Unfilled l table) (parts some) u
+  room : {s : Survey} → (left ≡ 0 → ⊥) → Unfilled (sizes_from types sizes left mask) s
+      → Unfilled (sizes_from types sizes (left - 1) (mask * 2) ++ sizes_from types sizes (left - 1) (mask * 2 + 1)) s
+  room {s} some u = subst (λ (l : List ℕ). Unfilled l s) (parts some) u
 
 pub note_mask-requires : goal.note_mask-requires
 note_mask-requires t c =
     let a = c.args in (
       place_end c.if-left-eq0.true c.requires.1,
-      subst (λ (l : List ℕ). Unfilled l a.table.now) (own a.types a.sizes.now a.mask c.if-left-eq0.true c.requires.2) c.requires.3,
+      subst (λ (l : List ℕ). Unfilled l a.survey.now) (own a.types a.sizes.now a.mask c.if-left-eq0.true c.requires.2) c.requires.3,
     )
 
 pub returns-then-left-eq0 : goal.returns-then-left-eq0
@@ -47,7 +48,7 @@ pub returns-then-ends_here : goal.returns-then-ends_here
 unfolding survey_from
 returns-then-ends_here t c =
     let a = c.args in
-    sym (ap (λ l. survey_from (survey_in a.table.now) (map (λ k. mask_sum k a.sizes.now) l)) (none_here a.types a.left a.mask (sym c.ends_here.ensures ∙ c.if-ends_here.true)))
+    sym (ap (λ l. survey_from a.survey.now (map (λ k. mask_sum k a.sizes.now) l)) (none_here a.types a.left a.mask (sym c.ends_here.ensures ∙ c.if-ends_here.true)))
 
 pub survey_from-requires : goal.survey_from-requires
 survey_from-requires t c =
@@ -78,6 +79,6 @@ survey_from-requires-2 t c =
 pub returns : goal.returns
 returns t c =
     let a = c.args in
-    survey_both (survey_in a.table.now) (sizes_from a.types a.sizes.now (a.left - 1) (a.mask * 2))
+    survey_both a.survey.now (sizes_from a.types a.sizes.now (a.left - 1) (a.mask * 2))
     (sizes_from a.types a.sizes.now (a.left - 1) (a.mask * 2 + 1)) c.survey_from.ensures c.survey_from-2.ensures
-    ∙ sym (ap (survey_from (survey_in a.table.now)) (parts a.types a.sizes.now a.mask c.if-left-eq0.false))
+    ∙ sym (ap (survey_from a.survey.now) (parts a.types a.sizes.now a.mask c.if-left-eq0.false))

@@ -4,4 +4,4 @@ use Rattle.settlement.proofs.payouts.row_terms.Goals as goal
 pub returns : goal.returns
 returns c =
     let row = c.args.row in
-    λ i. record { kind = c.of.ensures i; games = row.games; stake = row.stake; groups = row.groups; types = row.types }
+    λ i. record { kind = c.from.ensures i; games = row.games; stake = row.stake; groups = row.groups; types = row.types }

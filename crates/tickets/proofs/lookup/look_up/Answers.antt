@@ -1,18 +1,15 @@
--- `tickets::lookup::look_up` meets its contract: the row that was read stands at the place of the live ticket.
-use mathlib.Core.Path.{sym, ap, ◌∙◌}
-use Rattle.house.specs.View.{marks_at, ticket_from}
-use Rattle.house.specs.declared.rows.Row.{Row}
-use Rattle.tickets.proofs.FoundTickets.{placed_ticket}
+-- `tickets::lookup::look_up` meets its contract: each return is one row of the table that Cancel and Claim begin with, or past them all, by the
+-- laws of found tickets that stand at the function. The place among the live rows is asked for where their numbers rise, and they are at most 200.
+use native.Mathlib.Omega.{arith}
+use Rattle.tickets.proofs.FoundTickets.{rising_rows, live_ticket}
 use Rattle.tickets.proofs.lookup.look_up.Goals as goal
 
-pub returns : goal.returns
-returns c =
-    let args = c.args in
-    let answer = c.find_place-found.ensures in
-    let place = c.find_place-found.result.place in
-    record {
-      code = answer.code;
-      place = answer.place;
-      row = λ marks e. ap (λ (w : Row). ticket_from w (marks_at marks place)) c.read_row-row.ensures
-          ∙ placed_ticket args.house args.rows.now marks args.ticket (sym (answer.code marks) ∙ e) place (answer.place marks e);
-    }
+pub place_of-place-requires : goal.place_of-place-requires
+place_of-place-requires c = rising_rows c.args.house c.args.rows.now c.requires
+
+pub read_row-row-requires : goal.read_row-row-requires
+read_row-row-requires c = record { within = omega (arith, (rising_rows c.args.house c.args.rows.now c.requires).few) }
+
+pub returns-clause-row : goal.returns-clause-row
+returns-clause-row c = λ marks.
+    live_ticket c.args.house c.args.rows.now marks c.args.ticket _ _ _ c.requires c.from-number.ensures (c.place_of-place.ensures marks) (omega arith) c.read_row-row.ensures

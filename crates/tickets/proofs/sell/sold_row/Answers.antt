@@ -1,11 +1,10 @@
 -- `tickets::sell::sold_row` meets its contract, field by field: what a quote tells of its operands is what the ticket keeps.
 use Prim.Native.Nat.{ℕ, ◌+◌, ◌≤◌}
 use native.Mathlib.Omega.{arith}
-use mathlib.Core.Path.{◌≡◌, sym, ap, ◌∙◌}
+use mathlib.Core.Path.{◌≡◌, ap, ◌∙◌}
 use mathlib.Core.List.{List, []}
-use Rattle.sale.specs.Checks.{operands_of, accepted_quote}
-use Rattle.sale.specs.declared.check.Quote.{Quote}
-use Rattle.sale.proofs.CheckLaws.{acceptance}
+use Rattle.sale.specs.Checks.{operands_of}
+use Rattle.sale.proofs.CheckLaws.{staked_or_none}
 use Rattle.house.specs.Model.{next_game}
 use Rattle.house.specs.View.{feature_from, view}
 use Rattle.house.specs.declared.state.House.{House}
@@ -25,12 +24,7 @@ overflow_add-result-3 c = omega (arith, game_within c.args.house c.first_game-fi
 
 pub returns : goal.returns
 returns c = λ words marks from q.
-    let args = c.args in
-    let o = operands_of args.sale from in
-    let same : args.quote ≡ accepted_quote o = q.quote ∙ sym (acceptance o q.passed) in
-    ticket_sold args.house words marks o _ _ _ _ _ _ (c.first_game-first.ensures words marks)
-    (ap (λ (t : Quote). t.jackpot) same)
-    (ap (λ (t : Quote). t.sizes) same)
-    (ap (λ (t : Quote). t.paid) same)
-    (ap (λ (t : Quote). t.ways) same)
-    (ap feature_from c.stake.ensures ∙ feature_back o q.passed)
+    let o = operands_of c.args.sale from in
+    rw (c.from.ensures, c.from-2.ensures, c.from-3.ensures, c.from-4.ensures, c.from-5.ensures, c.from-6.ensures, c.from-7.ensures, c.from-8.ensures, c.from-9.ensures, c.from-10.ensures)
+    (ticket_sold c.args.house words marks o _ _ _ (c.first_game-first.ensures words marks) q.quote
+    (ap feature_from (c.unwrap_or.ensures ∙ staked_or_none c.args.sale.feature) ∙ feature_back o q.passed))

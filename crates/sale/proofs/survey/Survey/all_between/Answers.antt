@@ -1,4 +1,4 @@
--- `sale::survey::Survey::all_between` meets its contract: the smallest size and the largest answer for all of them.
+-- The smallest size and the largest answer for all of them.
 use mathlib.Core.Path.{sym, ap, ◌∙◌}
 use mathlib.Core.Bool.{◌&&◌}
 use Prim.Native.Nat.{◌≤◌}
@@ -8,16 +8,17 @@ use borrow.Author.Tests.{le-leb, lt-leb}
 use Rattle.sale.proofs.SurveyLaws.{within_survey}
 use Rattle.sale.proofs.survey.Survey.all_between.Goals as goal
 
-pub returns-then-self-lo : goal.returns-then-self-lo
-returns-then-self-lo c = λ sizes surveyed.
+pub returns-then-lo-self : goal.returns-then-lo-self
+returns-then-lo-self c = λ sizes surveyed.
     let a = c.args in
     let byte : a.lo ≤ 255 = omega arith in
     sym (within_survey a.lo a.hi byte sizes ∙ ap (λ s. leb a.lo s.least && leb s.most a.hi) (sym surveyed)
-    ∙ ap (λ b. b && leb a.self.most a.hi) (lt-leb _ _ c.if-self-lo.true))
+    ∙ ap (λ b. b && leb a.self.most a.hi) (le-leb _ _ c.if-lo-self.true))
 
-pub returns : goal.returns
-returns c = λ sizes surveyed.
+pub returns-else-lo-self : goal.returns-else-lo-self
+returns-else-lo-self c = λ sizes surveyed.
     let a = c.args in
     let byte : a.lo ≤ 255 = omega arith in
-    sym (within_survey a.lo a.hi byte sizes ∙ ap (λ s. leb a.lo s.least && leb s.most a.hi) (sym surveyed)
-    ∙ ap (λ b. b && leb a.self.most a.hi) (le-leb _ _ c.if-self-lo.false))
+    lt-leb _ _ c.if-lo-self.false
+    ∙ sym (within_survey a.lo a.hi byte sizes ∙ ap (λ s. leb a.lo s.least && leb s.most a.hi) (sym surveyed)
+    ∙ ap (λ b. b && leb a.self.most a.hi) (lt-leb _ _ c.if-lo-self.false))

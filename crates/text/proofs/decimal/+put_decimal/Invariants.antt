@@ -1,5 +1,0 @@
--- The measure is the number.
-use Rattle.text.proofs.decimal.+put_decimal.Given as goal
-
-abbrev pub decreases-put_decimal : goal.decreases-put_decimal
-decreases-put_decimal l = l.n
