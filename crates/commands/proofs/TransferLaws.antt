@@ -1,11 +1,19 @@
 -- Transfer's table by tests on the struct, and the room that a reached house's primaries have.
 use Prim.Native.Nat.{ℕ, ◌+◌, ◌<◌, ◌^◌}
 use native.Mathlib.Omega.{arith}
-use mathlib.Core.Path.{◌≡◌, ap}
-use mathlib.Core.Bool.{cond, not, ◌||◌}
+use mathlib.Core.Path.{◌≡◌, refl, sym, ap, ◌∙◌}
+use mathlib.Core.Bool.{Bool, true, false, cond, not, ◌||◌}
 use mathlib.Core.List.{List}
 use lib.Dec.{ltb, eqb}
+use borrow.Author.Tests.{eqb-true}
+use Rattle.std.specs.Prelude.{None, Some, Result, Ok, Err, ok_or}
+use Rattle.refusals.specs.Refusal.{refusal_number, code_in}
+use Rattle.refusals.specs.declared.refusal.Refusal.{Refusal}
+use Rattle.refusals.specs.declared.refusal.Refusal.TheVariants.{UnknownJackpot}
+use Rattle.sale.specs.Kinds.{number_of, jackpot_named, jackpot_operand}
 use Rattle.sale.specs.Checks.{first_met}
+use Rattle.sale.specs.declared.terms.JackpotKind.{JackpotKind}
+use Rattle.sale.specs.declared.terms.JackpotKind.TheVariants.{Six, Eight}
 use Rattle.prizes.specs.declared.jackpot.Jackpot.{Jackpot}
 use Rattle.house.specs.Model.{with_transferred}
 use Rattle.house.specs.Commands.{transfer, rows_of, code_of, with_primary, transferred, act, reply}
@@ -14,6 +22,37 @@ use Rattle.house.specs.Parts.{Comes, Carried}
 use Rattle.house.specs.declared.state.House.{House}
 use Rattle.house.proofs.ReachedHouses.{Sure, reached_sure}
 use Rattle.house.proofs.ViewLaws.{carried_done, view_drawing}
+
+-- what an operand says of Transfer's second row, and that it is the number of the jackpot that it names
+abbrev number_found : Result JackpotKind Refusal → ℕ
+number_found (Ok kind) = number_of kind
+number_found (Err refusal) = 0
+
+abbrev found_by : Bool → Bool → Result JackpotKind Refusal
+found_by six eight = ok_or (cond six (Some Six) (cond eight (Some Eight) None)) UnknownJackpot
+
+named : (j : ℕ) (kind : JackpotKind) (six eight : Bool) → eqb j 6 ≡ six → eqb j 8 ≡ eight → Ok kind ≡ found_by six eight → (number_of kind ≡ j) × ((six || eight) ≡ true)
+named j kind true eight s e found = (ap number_found found ∙ sym (eqb-true j 6 s), refl)
+named j kind false true s e found = (ap number_found found ∙ sym (eqb-true j 8 e), refl)
+named j kind false false s e found = cc
+
+unnamed : (refusal : Refusal) (six eight : Bool) → Err refusal ≡ found_by six eight → (refusal_number refusal ≡ 28) × ((six || eight) ≡ false)
+unnamed refusal true eight found = cc
+unnamed refusal false true found = cc
+unnamed refusal false false found = (ap code_in found, refl)
+
+module _ (j : ℕ) where
+  pub operand_named : (kind : JackpotKind) → Ok kind ≡ jackpot_operand j → number_of kind ≡ j
+  unfolding jackpot_named
+  operand_named kind found = (named j kind (eqb j 6) (eqb j 8) refl refl found).0
+
+  pub operand_known : (kind : JackpotKind) → Ok kind ≡ jackpot_operand j → (eqb j 6 || eqb j 8) ≡ true
+  unfolding jackpot_named
+  operand_known kind found = (named j kind (eqb j 6) (eqb j 8) refl refl found).1
+
+  pub operand_unnamed : (refusal : Refusal) → Err refusal ≡ jackpot_operand j → (refusal_number refusal ≡ 28) × ((eqb j 6 || eqb j 8) ≡ false)
+  unfolding jackpot_named
+  operand_unnamed refusal found = unnamed refusal (eqb j 6) (eqb j 8) found
 
 pub transfer_code :
     (h : House) (words marks : List ℕ) (j cents : ℕ)

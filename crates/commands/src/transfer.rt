@@ -1,6 +1,7 @@
 // Transfer: unclaimed money into a jackpot's primary.
 ghost use Rattle.std.specs.Prelude.{◌≡◌, ◌≤◌, ◌<◌, ◌+◌, ◌^◌, List, ℕ, IfOk};
 ghost use Rattle.refusals.specs.Refusal.{code_in};
+ghost use Rattle.sale.specs.Kinds.{number_of};
 ghost use Rattle.house.specs.Commands.{transfer, code_of, with_primary};
 ghost use Rattle.house.specs.View.{view};
 ghost use Rattle.house.specs.Parts.{Comes, Carried, host_answer};
@@ -9,26 +10,26 @@ use house::answer::Receipt;
 use house::state::House;
 use prizes::jackpot::Jackpot;
 use refusals::refusal::Refusal;
+use sale::terms::JackpotKind;
 
-// The first rule of Transfer that is broken, if any is.
-#[tactic(auto, using(crate::proofs::TransferLaws::transfer_code, std::proofs::lemmas::Bool::Decides::nat_tests))]
-fn check_transfer(house: House, jackpot: u8, cents: u64) -> Result<(), Refusal>
-    ensures code { (words marks : List ℕ) → code_in result ≡ code_of (view house words marks) (transfer jackpot cents) }
-    ensures covered { IfOk result (λ _. cents ≤ house.counters.unclaimed) }
+// The jackpot that Transfer names, or the first of its rules that is broken.
+#[tactic(auto, using(crate::proofs::TransferLaws::transfer_code, crate::proofs::TransferLaws::operand_named, crate::proofs::TransferLaws::operand_known, crate::proofs::TransferLaws::operand_unnamed, std::proofs::lemmas::Bool::Decides::nat_tests))]
+fn check_transfer(house: &House, jackpot: u8, cents: u64) -> Result<JackpotKind, Refusal>
+    ensures code { (words marks : List ℕ) → code_in result ≡ code_of (view house.now words marks) (transfer jackpot cents) }
+    ensures named { IfOk result (λ kind. number_of kind ≡ jackpot) }
+    ensures covered { IfOk result (λ _. cents ≤ house.now.counters.unclaimed) }
 {
     if house.day == 0 {
         return Err(Refusal::NotOpen);
     }
-    if !matches!(jackpot, 6 | 8) {
-        return Err(Refusal::UnknownJackpot);
-    }
+    let kind = JackpotKind::try_from(jackpot)?;
     if house.drawn != 0 {
         return Err(Refusal::Drawing);
     }
     if cents == 0 || house.counters.unclaimed < cents {
         return Err(Refusal::UnfitCents);
     }
-    Ok(())
+    Ok(kind)
 }
 
 // Puts cents into a primary: how many are in it then.
@@ -47,14 +48,12 @@ pub fn transfer_cents(house: &mut House, jackpot: u8, cents: u32) -> Result<Rece
     ensures { (words marks : List ℕ) → Carried house.old words marks (transfer jackpot cents) house.new words marks (host_answer result) }
 {
     let money = u64::from(cents);
-    check_transfer(*house, jackpot, money)?;
-    let mut next = *house;
-    next.counters.unclaimed -= money;
-    let primary = match jackpot {
-        6 => add_to_primary(&mut next.six, money),
-        _ => add_to_primary(&mut next.eight, money),
+    let kind = check_transfer(house, jackpot, money)?;
+    house.counters.unclaimed -= money;
+    let primary = match kind {
+        JackpotKind::Six => add_to_primary(&mut house.six, money),
+        JackpotKind::Eight => add_to_primary(&mut house.eight, money),
     };
-    *house = next;
     Ok(Receipt {
         number: u32::from(jackpot),
         cents: primary,

@@ -2,15 +2,14 @@
 -- tickets.
 use Prim.Native.Nat.{ℕ, ◌+◌, ◌≤◌, ◌<◌}
 use mathlib.Core.Path.{◌≡◌, refl, sym, ap, ◌∙◌}
-use mathlib.Core.Bool.{Bool, true, false, not, ◌&&◌}
+use mathlib.Core.Bool.{true, false, not}
 use mathlib.Core.List.{List, [], ◌∷◌, ◌++◌, map, zip_with, append-nil, map-map}
 use native.Mathlib.Nat.{add-zero}
 use native.Mathlib.Omega.{arith}
 use lib.ListN.{length, get_or, set, take, drop, length-take}
 use lib.Seq.{get_or-set_same, get_or-drop, drop-set-lt, drop-drop}
-use borrow.Author.Tests.{ne_eqb}
 use Rattle.sale.specs.Lists.{below, keep}
-use Rattle.house.specs.Tickets.{Ticket, games_left, is_finished, is_live, with_due}
+use Rattle.house.specs.Tickets.{Ticket, games_left, is_live, with_due}
 use Rattle.house.specs.Commands.{blank_ticket, still_live, finished_on, awarded}
 use Rattle.house.specs.View.{ticket_in, tickets_of}
 use Rattle.settlement.specs.Settling.{spread}
@@ -30,22 +29,10 @@ zip_maps f g h (x ∷ xs) = ap (λ ys. f (g x) (h x) ∷ ys) (zip_maps f g h xs)
 
 -- ---- a ticket after the game
 
-and_off : (b : Bool) → (b && false) ≡ false
-and_off true = refl
-and_off false = refl
-
 -- one that is paid nothing is the same, but for a finishing day
 module _ (day game cents : ℕ) (t : Ticket) (unpaid : cents ≡ 0) where
   due_same : with_due t (t.due + cents) ≡ t
   due_same = let same : t.due + cents ≡ t.due = omega arith in λ i. with_due t (same i)
-
-  pub same_finished : (t.finished_day ≡ 0 → ⊥) → paid_ticket day game cents t ≡ t
-  same_finished h =
-      rw (ne_eqb t.finished_day 0 h, and_off (is_finished game (with_due t (t.due + cents)))) due_same
-
-  pub same_running : is_finished game t ≡ false → paid_ticket day game cents t ≡ t
-  unfolding games_left
-  same_running e = rw e due_same
 
 -- a finishing day closes no ticket, and neither does a payment
 paid_live : (day game cents : ℕ) (t : Ticket) → is_live game (paid_ticket day game cents t) ≡ is_live game (with_due t (t.due + cents))

@@ -35,22 +35,22 @@ fn check_ball(house: &House, number: u8) -> Result<(), Refusal>
 }
 
 // The balls in, and one number more.
-fn balls_with(house: House, number: u8) -> [u8; 20]
-    requires { house.drawn < 20 }
+fn balls_with(house: &House, number: u8) -> [u8; 20]
+    requires { house.now.drawn < 20 }
     ensures count { length result ≡ 20 }
-    ensures balls { (words marks : List ℕ) → map (λ i. get_or result i 0) (below (house.drawn + 1)) ≡ balls_with number (view house words marks) }
+    ensures balls { (words marks : List ℕ) → map (λ i. get_or result i 0) (below (house.now.drawn + 1)) ≡ balls_with number (view house.now words marks) }
 {
     let mut balls = house.balls;
     balls[house.drawn as usize] = number;
     balls
 }
 
-// A ball before the twentieth.
+// A ball before the twentieth. How many are in fits wherever `as` casts it: at most 20.
 fn add_ball(house: &mut House, number: u8) -> Receipt
     requires { house.old.drawn < 19 }
     ensures { (words marks : List ℕ) → code_of (view house.old words marks) (ball number) ≡ 0 → Carried house.old words marks (ball number) house.new words marks (host_answer (Ok result)) }
 {
-    house.balls = balls_with(*house, number);
+    house.balls = balls_with(house, number);
     house.drawn += 1;
     Receipt {
         number: house.drawn as u32,
@@ -72,6 +72,6 @@ pub fn enter_ball(
     if house.drawn < 19 {
         return Ok(add_ball(house, number));
     }
-    let draw = Draw::of(balls_with(*house, number));
+    let draw = Draw::of(balls_with(house, number));
     Ok(settle_game(house, rows, marks, draw))
 }

@@ -9,7 +9,6 @@ ghost use Rattle.draw.specs.Closing.{paid_ticket, Endable};
 
 use house::rows::{Row, change_ticket, move_ticket, read_row};
 use house::state::House;
-use house::ticket::{finished_on, is_closed, is_finished};
 
 // What the end of a game brings a ticket: the cents that it is paid, the day, and the game that is current now.
 #[derive(Clone, Copy)]
@@ -26,22 +25,21 @@ impl Payment {
         ensures { (m : List ℕ) → ticket_from result m ≡ paid_ticket self.day self.game self.cents (ticket_from row m) }
     {
         row.due += self.cents;
-        finished_on(self.day, self.game, row)
+        row.finished_on(self.day, self.game)
     }
 
-    // Whether a ticket closes with what it is paid: one that is paid nothing closes if it is finished with nothing due, and any other stays. What is
-    // paid is tested first, so that no row has to be read for those.
+    // Whether a ticket closes with what it is paid: one that is paid nothing closes if it is finished with nothing due, and any other stays.
     fn closes(self, row: Row) -> bool
         ensures { (m : List ℕ) → result ≡ not (is_live self.game (paid_ticket self.day self.game self.cents (ticket_from row m))) }
     {
-        self.cents == 0 && is_closed(self.game, row)
+        self.cents == 0 && row.is_closed(self.game)
     }
 
-    // Whether a ticket is the same with what it is paid: nothing, and it has a game left or its finishing day already.
-    fn is_nothing(self, row: Row) -> bool
+    // Whether the payment leaves a ticket as it is: nothing is paid, and it has a game left or its finishing day already.
+    fn changes_nothing(self, row: Row) -> bool
         ensures { result ≡ true → (m : List ℕ) → paid_ticket self.day self.game self.cents (ticket_from row m) ≡ ticket_from row m }
     {
-        self.cents == 0 && (row.finished != 0 || !is_finished(self.game, row))
+        self.cents == 0 && (row.finished != 0 || !row.is_finished(self.game))
     }
 }
 
@@ -64,25 +62,26 @@ fn close_ticket(
     }
     move_ticket(rows, marks, i, left);
     let moved = read_row(rows, left);
-    if payment.is_nothing(moved) {
+    if payment.changes_nothing(moved) {
         return left + 1;
     }
     change_ticket(rows, left, payment.paid(moved));
     left + 1
 }
 
-// The live tickets after the game: those that stay move down. How many they are.
+// The live tickets after the game: those that stay move down. How many they are. By places, since rows that move under the loop can be lent to no
+// iterator; a ticket's award is read by its place too.
 fn close_tickets(
-    house: House,
+    house: &House,
     rows: &mut [u64; 3200],
     marks: &mut [u8; 16000],
     awards: &[u64; 200],
 ) -> usize
-    requires { Endable house rows.old awards.now }
-    ensures count { result ≤ house.live }
+    requires { Endable house.now rows.old awards.now }
+    ensures count { result ≤ house.now.live }
     ensures stay { (figures : List ℕ)
-        → take house.live awards.now ≡ spread house.game figures (view house rows.old marks.old).live
-        → take result (tickets_of rows.new marks.new) ≡ tickets_after_game house.day house.game figures (view house rows.old marks.old).live }
+        → take house.now.live awards.now ≡ spread house.now.game figures (view house.now rows.old marks.old).live
+        → take result (tickets_of rows.new marks.new) ≡ tickets_after_game house.now.day house.now.game figures (view house.now rows.old marks.old).live }
 {
     let day = house.day;
     let game = house.game + 1;
@@ -98,7 +97,8 @@ fn close_tickets(
     left
 }
 
-// The house once the game is over, whatever it awards: one award at the place of each live ticket. Pools and counters are not touched.
+// The house once the game is over, whatever it awards: one award at the place of each live ticket. Pools and counters are not touched. The house goes in and comes
+// out by value, here and where the settlement joins it: a struct update says of all its other fields that they stay.
 pub(crate) fn end_game(
     house: House,
     rows: &mut [u64; 3200],
@@ -110,7 +110,7 @@ pub(crate) fn end_game(
         → take house.live awards.now ≡ spread house.game figures (view house rows.old marks.old).live
         → view result rows.new marks.new ≡ game_ended figures (view house rows.old marks.old) }
 {
-    let left = close_tickets(house, rows, marks, awards);
+    let left = close_tickets(&house, rows, marks, awards);
     House {
         game: house.game + 1,
         drawn: 0,

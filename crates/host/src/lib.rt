@@ -1,4 +1,5 @@
-// The house for hosts in Rust or C: plain numbers, structs, arrays and bytes. The host keeps the house, the rows and the marks from call to call, as one call left them, and starts from a fresh house.
+// The house for hosts in Rust or C: plain numbers, structs, arrays and bytes. The host keeps the house, the rows and the marks from call to call, as one
+// call left them, and starts from a fresh house.
 
 #![tactic(auto)]
 

@@ -13,7 +13,7 @@ use lib.Dec.{lit<, eqb, ltb, leb-suc-suc}
 use lib.ListN.{length, get_or, set, take, drop, length-set, length-map, length-take, length-drop}
 use lib.Seq.{sets, sets-eq, length-sets, set-set, get_or-set_same, get_or-set_other, get_or-take, get_or-drop, ext_get_or, take-set-lt, take-suc-set, length-take-le, take_at, drop_at, set_split}
 use Rattle.std.specs.List.{HoldsAt}
-use Rattle.std.specs.List.Sorted.{IsNonDecreasingBy, IsPartitionPoint}
+use Rattle.std.specs.List.Sorted.{IsNonDecreasingBy, IsPartitionPoint, IsSearchInRange, IsBinarySearchResult}
 use Rattle.std.specs.Ordering.{nat_cmp, ordering_index}
 use Rattle.std.proofs.lemmas.Cmp.{ranked}
 use Rattle.std.specs.declared.cmp.Ordering.TheVariants.{Less, Equal, Greater}
@@ -21,7 +21,8 @@ use Rattle.std.specs.Simd.{first_chunks}
 use Rattle.std.proofs.lemmas.Map.Lookups.{exact_unsigned}
 use Rattle.sale.specs.Lists.{keep, any}
 use Rattle.sale.specs.Checks.{has_feature, feature_stake}
-use Rattle.std.specs.Prelude.{Option, None, Some}
+use Rattle.std.specs.Prelude.{Option, None, Some, IfSome, IfNone, Result, Ok, Err}
+use Rattle.std.specs.Result.{result_ok}
 use Rattle.house.specs.Tickets.{Ticket, is_live}
 use Rattle.house.specs.Commands.{blank_ticket, ticket_at, has_ticket, changed, still_live}
 use Rattle.house.specs.View.{row_of, words_of, put_row, marks_at, put_marks, feature_from, ticket_from, ticket_in, tickets_of, place_of, RisingRows, without}
@@ -258,10 +259,6 @@ module _ (n : ℕ) where
   place_number [] h = absurd (not-suc-le-zero h)
   place_number (t ∷ ts) h = number_by t ts (eqb t.number n) refl (place_number ts) h
 
-  pub place_found : (ts : List Ticket)
-      → (has_ticket n ts ≡ ltb (place_of n ts) (length ts)) × (ticket_at n ts ≡ get_or ts (place_of n ts) blank_ticket)
-  place_found ts = (place_has ts, place_ticket ts)
-
 -- the same among the rows of the live tickets
 module _ (words marks : List ℕ) (live : ℕ) (h : live ≤ 200) where
   pub live_at : (i : ℕ) → i < live → get_or (take live (tickets_of words marks)) i blank_ticket ≡ ticket_in words marks i
@@ -295,7 +292,7 @@ module _ (words : List ℕ) (long : length words ≡ 3200) (chunks : List (List 
       ∙ word_at words long chunks front k (omega (arith, rising.few)) d 0 (lit< tt)
       ∙ ap (λ j. get_or words j 0) (add-zero (k * 16))
 
-  pub found_row : (marks : List ℕ) (place : ℕ) → place < length (take live chunks)
+  found_row : (marks : List ℕ) (place : ℕ) → place < length (take live chunks)
       → HoldsAt (λ row. nat_cmp (get_or row 0 0) n ≡ Equal) (take live chunks) place
       → place ≡ place_of n (take live (tickets_of words marks))
   found_row marks place h same =
@@ -313,7 +310,7 @@ module _ (words : List ℕ) (long : length words ≡ 3200) (chunks : List (List 
   order_rises : (a b : ℕ) → a ≤ b → ordering_index (nat_cmp a n) ≤ ordering_index (nat_cmp b n)
   order_rises a b le = grind (arith, tests)
 
-  pub missed_row : (marks : List ℕ) (place : ℕ)
+  missed_row : (marks : List ℕ) (place : ℕ)
       → (IsNonDecreasingBy (λ row. ordering_index (nat_cmp (get_or row 0 0) n)) (take live chunks)
       → IsPartitionPoint (λ row. nat_cmp (get_or row 0 0) n ≡ Less) (λ row. nat_cmp (get_or row 0 0) n ≡ Greater) (take live chunks) place)
       → live ≡ place_of n (take live (tickets_of words marks))
@@ -324,6 +321,24 @@ module _ (words : List ℕ) (long : length words ≡ 3200) (chunks : List (List 
       (λ early. omega (arith, number_at k [] b, ranked (get_or (get_or (take live chunks) k []) 0 0) n Less (sym (sides.0 k [] (omega arith) early))))
       (λ late. omega (arith, number_at k [] b, ranked (get_or (get_or (take live chunks) k []) 0 0) n Greater (sym (sides.1 k [] late (omega (arith, rows_live))))))
       (earlier_or_not k place)))
+
+  module _ (marks : List ℕ) where
+    pub place_found :
+        (r : Result ℕ ℕ) (found : Option ℕ)
+        → found ≡ result_ok r
+        → IsSearchInRange r (length (take live chunks))
+        → IsBinarySearchResult (λ row. nat_cmp (get_or row 0 0) n) (take live chunks) r
+        → IfSome found (λ place. (place ≡ place_of n (take live (tickets_of words marks))) × (place < live))
+    place_found (Ok place) found told inside same = rw told (found_row marks place inside same, omega (arith, rows_live))
+    place_found (Err place) found told inside parted = rw told tt
+
+    pub place_missed :
+        (r : Result ℕ ℕ) (found : Option ℕ)
+        → found ≡ result_ok r
+        → IsBinarySearchResult (λ row. nat_cmp (get_or row 0 0) n) (take live chunks) r
+        → IfNone found (place_of n (take live (tickets_of words marks)) ≡ live)
+    place_missed (Ok place) found told same = rw told tt
+    place_missed (Err place) found told parted = rw told (sym (missed_row marks place parted))
 
 -- a change to the ticket of a number, where no other has it
 pub changed_at : (n : ℕ) (f : Ticket → Ticket) (ts : List Ticket) (p : ℕ) → place_of n ts ≡ p → p < length ts

@@ -15,7 +15,8 @@ use Rattle.house.specs.Tickets.{Ticket}
 use Rattle.house.specs.Model.{Model, is_drawing, next_game}
 use Rattle.calendar.specs.Bounds.{ExpiryBound}
 use Rattle.house.specs.Commands.{Command, Answer, is_expired, blank_ticket, ticket_at, has_ticket, code_of, act, reply, answer_of}
-use Rattle.house.specs.View.{row_at, DayTells, ticket_in, tickets_of, place_of, RisingRows, view}
+use Rattle.house.specs.View.{DayTells, ticket_from, ticket_in, tickets_of, place_of, RisingRows, view}
+use Rattle.house.specs.declared.rows.Row.{Row}
 use Rattle.refusals.specs.Refusal.{refusal_number}
 use Rattle.refusals.specs.declared.refusal.Refusal.{Refusal}
 use Rattle.refusals.proofs.Refusals.{refusal_some}
@@ -152,16 +153,13 @@ module _ (h : House) (words marks : List ℕ) where
 -- ---- a ticket that expires
 
 -- without a finishing day a ticket is not finished
-pub stands_unfinished : (rows marks : List ℕ) (i day : ℕ) (m : Model) → DayTells m.game (ticket_in rows marks i) → day ≡ (row_at rows i).finished → day ≡ 0 →
-    false ≡ is_expired m (ticket_in rows marks i)
+pub stands_unfinished : (w : Row) (marks : List ℕ) (m : Model) → DayTells m.game (ticket_from w marks) → w.finished ≡ 0 → false ≡ is_expired m (ticket_from w marks)
 unfolding is_expired
-stands_unfinished rows marks i day m tells same none = rw (tells.tells, eq-eqb (ticket_in rows marks i).finished_day 0 (sym same ∙ none))
+stands_unfinished w marks m tells none = rw (tells.tells, eq-eqb w.finished 0 none)
 
 -- with one the day's bound tells
 pub expires_by_bound :
-    (rows marks : List ℕ) (i day bound : ℕ) (m : Model) → DayTells m.game (ticket_in rows marks i) → ExpiryBound m.day bound → day ≡ (row_at rows i).finished → (day ≡ 0 → ⊥) →
-    ltb day bound ≡ is_expired m (ticket_in rows marks i)
+    (w : Row) (marks : List ℕ) (bound : ℕ) (m : Model) → DayTells m.game (ticket_from w marks) → ExpiryBound m.day bound → (w.finished ≡ 0 → ⊥) →
+    ltb w.finished bound ≡ is_expired m (ticket_from w marks)
 unfolding is_expired
-expires_by_bound rows marks i day bound m tells bounded same some =
-    rw (tells.tells, ne_eqb (ticket_in rows marks i).finished_day 0 (λ none. some (same ∙ none)))
-    (ap (λ d. ltb d bound) same ∙ sym (bounded.before (ticket_in rows marks i).finished_day))
+expires_by_bound w marks bound m tells bounded some = rw (tells.tells, ne_eqb w.finished 0 some) (sym (bounded.before w.finished))

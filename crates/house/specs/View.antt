@@ -128,10 +128,6 @@ pub record DayTells (game : ℕ) (t : Ticket) : Type 0 where
 unfoldable pub without {ℓ} : {A : Type ℓ} → ℕ → List A → List A
 without i xs = take i xs ++ drop (suc i) xs
 
--- a list whose first n elements are those that stood w places further on
-abbrev pub shifted : {A : Type 0} → ℕ → ℕ → List A → List A
-shifted w n xs = take n (drop w xs) ++ drop n xs
-
 -- the house
 unfoldable pub view : House → List ℕ → List ℕ → Model
 view h words marks =

@@ -2,7 +2,7 @@
 // are the house's, in rising ticket number; what stands beyond is no part of it. They are two arrays with a number beside them since a host in C
 // lends them so. A place is a plain number below 200 (`IsRow`): callers count through the places, and a type of its own would be made and taken
 // apart at each.
-ghost use Rattle.std.specs.Prelude.{◌≡◌, List, [], ◌∷◌, ◌++◌, ℕ, ◌+◌, ◌-◌, ◌*◌, ◌<◌, ◌≤◌, length, take, drop, set, get_or};
+ghost use Rattle.std.specs.Prelude.{◌≡◌, List, [], ◌∷◌, ◌++◌, ℕ, ◌+◌, ◌-◌, ◌*◌, ◌<◌, ◌≤◌, length, take, set, get_or, IfSome, IfNone};
 ghost use Rattle.std.specs.List.{CopiedTo, SameBelow, SameFrom};
 ghost use Rattle.house.specs.Commands.{blank_ticket};
 ghost use Rattle.house.specs.View.{row_of, row_at, words_of, put_row, marks_at, put_marks, ticket_from, tickets_of, place_of, IsRow, IsLiveRow, MarkedRow, MovesDown, RisingRows, without};
@@ -87,15 +87,7 @@ pub fn read_row(rows: &[u64; 3200], i: usize) -> Row
     Row::from(rows[i])
 }
 
-// The finishing day of the ticket at a place, and 0 before it.
-pub fn finishing_day(rows: &[u64; 3200], i: usize) -> u64
-    requires { IsRow i }
-    ensures { result ≡ (row_at rows.now i).finished }
-{
-    read_row(rows, i).finished
-}
-
-// Another row at a place. Word by word, so that words which have not changed are not stored: `copy_from_slice` goes by an array on the stack.
+// Another row at a place. Word by word: `copy_from_slice` goes by an array on the stack, which cost speed.
 #[tactic(auto, using(crate::proofs::RowLists::sets_more), unfolding(crate::specs::View::put_row))]
 pub(crate) fn write_row(rows: &mut [u64; 3200], i: usize, row: Row)
     requires { IsRow i }
@@ -108,7 +100,7 @@ pub(crate) fn write_row(rows: &mut [u64; 3200], i: usize, row: Row)
     }
 }
 
-// A ticket's marks, written from the 80 of a sale.
+// A ticket's marks, written from the 80 of a sale. By their first place, and not through `as_chunks_mut`, after which nothing is known of the slice.
 #[tactic(auto, unfolding(crate::specs::View::put_marks))]
 pub(crate) fn write_marks(marks: &mut [u8; 16000], i: usize, from: &[u8])
     requires { MarkedRow i from.now }
@@ -118,16 +110,16 @@ pub(crate) fn write_marks(marks: &mut [u8; 16000], i: usize, from: &[u8])
     marks[at..at + 80].copy_from_slice(from);
 }
 
-// The place of a ticket's number among the live ones, or how many they are where it is not there. Callers know a place by comparing it with `live`.
-pub fn place_of(rows: &[u64; 3200], live: usize, number: u64) -> usize
+// The place of a ticket's number among the live ones, if it is there.
+pub fn place_of(rows: &[u64; 3200], live: usize, number: u64) -> Option<usize>
     requires { RisingRows rows.now live }
-    ensures { (m : List ℕ) → result ≡ place_of number (take live (tickets_of rows.now m)) }
+    ensures found { (m : List ℕ) → IfSome result (λ place. (place ≡ place_of number (take live (tickets_of rows.now m))) × (place < live)) }
+    ensures missed { (m : List ℕ) → IfNone result (place_of number (take live (tickets_of rows.now m)) ≡ live) }
 {
     let (rows, _) = rows.as_chunks::<16>();
-    match rows[..live].binary_search_by_key(&number, |row| row[0]) {
-        Ok(place) => place,
-        Err(_) => live,
-    }
+    rows[..live]
+        .binary_search_by_key(&number, |row| row[0])
+        .ok()
 }
 
 // Another row in the place of a ticket's, which keeps its marks.
@@ -171,7 +163,7 @@ pub fn move_ticket(rows: &mut [u64; 3200], marks: &mut [u8; 16000], from: usize,
 }
 
 // The items become those so many further on. A loop from the slice's start, of which the back end makes one block move: of std's `copy_within` it makes a
-// loop for the words, half as slow again.
+// loop for the words, which took half as long again.
 fn shift_down<T: Copy, const STEP: usize>(items: &mut [T])
     requires { STEP ≤ length items.old }
     ensures len { length items.new ≡ length items.old }

@@ -1,5 +1,6 @@
 // The house as its caller keeps it: a small struct. The live tickets stand beside it, in rows and marks that the caller lends. The layout is
-// that of the struct in C, so the balls are an array with their number beside it.
+// that of the struct in C, so the balls are an array with their number beside it, and before the first Open the day is 0. Whether a day is open and whether a
+// game is being drawn are one comparison each, which a method would only rename.
 ghost use Rattle.std.specs.Prelude.{◌≡◌, List, ℕ};
 ghost use Rattle.house.specs.Model.{fresh, next_game};
 ghost use Rattle.house.specs.View.{view, InGames};
@@ -81,7 +82,8 @@ impl House {
         }
     }
 
-    // The first game that is not being drawn: where a new ticket begins, and what Cancel can still take off.
+    // The first game that is not being drawn: where a new ticket begins, and what Cancel can still take off. That the game is in range is a clause, here
+    // and in a sale: a fact that the type kept would be asked of a host in C that no contract tells of it.
     #[tactic(auto, using(crate::proofs::ViewLaws::next_waiting, crate::proofs::ViewLaws::next_drawing))]
     pub fn first_game(self) -> u64
         requires { InGames self }

@@ -13,6 +13,7 @@ use arrayvec::ArrayString;
 use house::state::House;
 use queries::till::till_of;
 use roll::reader::{Report, read_roll};
+use roll::stop::Stop;
 use std::fmt::{Display, Write as _};
 use std::io::{self, Read, Write};
 use text::lines::{StopLine, TillLine};
@@ -45,7 +46,8 @@ fn print<W: Write, D: Display>(output: &mut W, text: &D) -> io::Result<()>
     }
 }
 
-// Reads on until a book of 64 answers is full or the roll stops.
+// Reads on until a book of 64 answers is full or the roll stops. A function of its own, so that what the reader's contract says of the rest of the roll is
+// shown apart from the loop that prints.
 fn read_on(
     house: House,
     rows: &mut [u64; 3200],
@@ -61,8 +63,7 @@ fn read_on(
     read_roll(house, rows, marks, roll, book)
 }
 
-// Runs a whole roll, and prints the answers of each book, the stop code and the till. Stop 3, a full book, is a number as all stops are, since
-// the report goes to C as it stands.
+// Runs a whole roll, and prints the answers of each book, the stop code and the till. The report has the stop as a number, for C.
 fn run_roll<W: Write>(
     output: &mut W,
     roll: &[u8],
@@ -78,7 +79,7 @@ fn run_roll<W: Write>(
         let report = read_on(house, rows, marks, rest, &mut book);
         print(output, &BookLines(&book[..report.answers * 14]))?;
         house = report.house;
-        let is_full = report.stop == 3;
+        let is_full = report.stop == u8::from(Stop::BookFull);
         if !is_full {
             let till = TillLine(till_of(house, rows));
             return print(output, &format_args!("{}{till}", StopLine(report.stop)));

@@ -1,26 +1,27 @@
--- Laws on the pass over a ticket's ways: what its calls add one after the other is what the ways add together, and room for the whole is room for
--- each; what it carries to the end is what a way takes of the groups; and over all groups it finds the prizes that the rule names.
-use Prim.Native.Nat.{ℕ, suc, ◌+◌, ◌*◌, ◌-◌, ◌/◌, ◌%◌, ◌≤◌, ◌<◌, ◌^◌}
+-- Laws on the pass over a ticket's ways: what is added one way after the other is what the ways add together, and over all groups the walk finds the prizes
+-- that the rule names.
+use Prim.Native.Nat.{ℕ, suc, ◌+◌, ◌*◌, ◌/◌, ◌%◌, ◌≤◌, ◌<◌, ◌^◌}
 use mathlib.Core.Path.{◌≡◌, refl, sym, ap, ap₂, ◌∙◌, subst}
 use mathlib.Core.Bool.{Bool, true, false, cond}
 use mathlib.Core.List.{List, [], ◌∷◌, ◌++◌, map, map-map, map-append}
-use native.Mathlib.Nat.{zero-add, add-zero, add-suc, suc-add, mul_comm, mul-add, mul_assoc, mul-le-mul_right, pos_of_ne-zero}
+use native.Mathlib.Nat.{zero-add, add-zero, add-suc, suc-add, mul-add, mul_assoc, mul-le-mul_right}
 use native.Mathlib.Omega.{arith}
 use lib.Dec.{eqb}
 use lib.ListN.{length, drop, get_or, set, length-append, length-map, length-drop}
 use lib.Seq.{sets, get_or-drop}
 use Rattle.sale.specs.Lists.{sum, keep}
 use Rattle.sale.specs.Ways.{ways, mask_sum}
-use Rattle.prizes.specs.Prize.{major_floor, is_major, prize}
+use Rattle.prizes.specs.Prize.{is_major, prize}
 use Rattle.prizes.specs.Settle.{prizes_by, full_by}
-use Rattle.sale.specs.Passes.{ways_from}
-use Rattle.prizes.specs.Found.{size_in, hits_in, group_sizes, group_hits, Groups, Carries, prize_in, pairs_from, sure_of, majors_among, Room, Behind, JoinedWays, FoundWith}
+use Rattle.sale.specs.Noting.{AllNoted, way_figures}
+use Rattle.prizes.specs.Found.{size_in, hits_in, group_sizes, group_hits, Groups, prize_in, sure_of, majors_among, Room, Behind, JoinedWays, FoundWith}
+use Rattle.prizes.specs.Finding.{NotesWay}
+use Rattle.prizes.specs.declared.found.Finding.{Finding}
 use Rattle.prizes.specs.declared.found.Found.{Found}
 use Rattle.prizes.specs.declared.majors.Majors.{Majors}
 use Rattle.sale.specs.declared.terms.Terms.{Terms}
-use Rattle.sale.proofs.KeepLaws.{keep_append, length_keep_le, sum_within}
-use Rattle.sale.proofs.WayLaws.{sum_append, keep_map, ways_few, next, mask_sum_none, mask_sum_with, mask_sum_without}
-use Rattle.sale.proofs.WalkLaws.{ways_from_ways}
+use Rattle.sale.proofs.KeepLaws.{keep_append}
+use Rattle.sale.proofs.WayLaws.{sum_append, keep_map, ways_few, next}
 
 -- ---- stores one behind the other
 
@@ -119,54 +120,19 @@ module _ (t : Terms) where
           behind = subst (λ (l : List ℕ). Behind l majors majors₂) (sym these) (behind_both j.behind k.behind);
         }
 
-    -- room for both is room for the second once the first are added
-    pub room_second : Room (length (xs ++ ys)) found majors.count → Room (length ys) found₁ majors₁.count
-    room_second r =
-        let cents : sure_cents xs ≤ length xs * major_floor = sum_within (λ x. sure_of (prize_in t.kind t.stake x)) major_floor xs (λ x m. omega arith) in
-        let matches : full_count xs ≤ length xs = length_keep_le (λ x. eqb (hits_in x) (size_in x)) xs in
-        let these : length (majors_in xs) ≤ length (map (prize_in t.kind t.stake) xs) = length_keep_le is_major (map (prize_in t.kind t.stake) xs) in
-        record {
-          sure = omega (arith, r.sure, j.sure, length-append xs ys, mul_comm (length xs) major_floor);
-          full = omega (arith, r.full, j.full, length-append xs ys);
-          majors = omega (arith, r.majors, j.behind.count, length-append xs ys, length-map xs (prize_in t.kind t.stake));
-        }
-
-pub room_first : (xs ys : List ℕ) {found : Found} {count : ℕ} → Room (length (xs ++ ys)) found count → Room (length xs) found count
-room_first xs ys r =
-    record {
-      sure = omega (arith, r.sure, length-append xs ys);
-      full = omega (arith, r.full, length-append xs ys);
-      majors = omega (arith, r.majors, length-append xs ys);
-    }
-
--- ---- what the walk carries
-
-pub start_carries : (g : ℕ) (table : List ℕ) → Carries g 0 0 table
-start_carries g table = record { added = sym (mask_sum_none (drop (suc g) table)); small = omega arith }
-
-pub carries_end : {left m pair : ℕ} {table : List ℕ} → left ≡ 0 → Carries left m pair table → pair ≡ mask_sum m (drop 1 table)
-carries_end {m = m} {table = table} none c = c.added ∙ ap (λ k. mask_sum m (drop (suc k) table)) none
-
--- a group of a table is a number below 2^20
-pub group_small : (table : List ℕ) → Groups table → (k : ℕ) → get_or table k 0 < 2 ^ 20
-group_small table g k = omega (arith, g.sizes k)
-
-module _ {left : ℕ} (some : left ≡ 0 → ⊥) {m pair : ℕ} {table : List ℕ} where
-  pub carries_with : left ≤ 8 → Groups table → Carries left m pair table → Carries (left - 1) (m * 2 + 1) (pair + get_or table left 0) table
-  carries_with few g c =
-      record {
-        added =
-            ap (λ k. k + get_or table left 0) c.added ∙ sym (mask_sum_with m left table)
-            ∙ ap (λ k. mask_sum (m * 2 + 1) (drop k table)) (sym (next some));
-        small = omega (arith, c.small, group_small table g left, pos_of_ne-zero some);
-      }
-
-  pub carries_without : left ≤ 8 → Carries left m pair table → Carries (left - 1) (m * 2) pair table
-  carries_without few c =
-      record {
-        added = c.added ∙ sym (mask_sum_without m left table) ∙ ap (λ k. mask_sum (m * 2) (drop k table)) (sym (next some));
-        small = omega (arith, c.small, pos_of_ne-zero some);
-      }
+-- the ways of a walk, noted one after the other
+pub ways_noted : (pairs : List ℕ) (s t : Finding) → AllNoted NotesWay pairs s t
+    → JoinedWays s.terms pairs s.found s.majors.now t.found t.majors.now × (t.majors.ghost_name ≡ s.majors.ghost_name)
+unfolding AllNoted
+ways_noted [] s t e =
+    subst (λ (u : Finding). JoinedWays s.terms [] s.found s.majors.now u.found u.majors.now × (u.majors.ghost_name ≡ s.majors.ghost_name)) (sym e)
+    (no_ways s.terms s.found s.majors.now, refl)
+ways_noted (x ∷ xs) s t (next, one, others) =
+    let (joined, same) = ways_noted xs next t others in (
+      ways_both s.terms (x ∷ []) xs one.joined
+          (subst (λ (u : Terms). JoinedWays u xs next.found next.majors.now t.found t.majors.now) one.terms joined),
+      same ∙ one.same_majors,
+    )
 
 -- ---- over all groups
 
@@ -207,13 +173,10 @@ module _ (table : List ℕ) (g : Groups table) (m : ℕ) where
 
 module _ (t : Terms) (table : List ℕ) (g : Groups table) where
   abbrev all : List ℕ
-  all = pairs_from t.types table t.groups 0
+  all = way_figures t.groups t.types table
 
   abbrev way_pair : ℕ → ℕ
   way_pair m = mask_sum m (drop 1 table)
-
-  over_ways : all ≡ map way_pair (ways t.groups t.types)
-  over_ways = ap (map way_pair) (ways_from_ways t.groups t.types)
 
   same_prize : ◌≡◌ {A = ℕ → ℕ} (λ m. prize_in t.kind t.stake (way_pair m))
       (λ m. prize t.kind t.stake (mask_sum m (group_sizes table)) (mask_sum m (group_hits table)))
@@ -227,14 +190,13 @@ module _ (t : Terms) (table : List ℕ) (g : Groups table) where
   found_prizes : map (prize_in t.kind t.stake) all ≡ prizes_by t (group_sizes table) (group_hits table)
   unfolding prizes_by
   found_prizes =
-      ap (map (prize_in t.kind t.stake)) over_ways ∙ map-map (prize_in t.kind t.stake) way_pair (ways t.groups t.types)
+      map-map (prize_in t.kind t.stake) way_pair (ways t.groups t.types)
       ∙ ap (λ (f : ℕ → ℕ). map f (ways t.groups t.types)) same_prize
 
   found_full : length (keep (λ x. eqb (hits_in x) (size_in x)) all) ≡ full_by t (group_sizes table) (group_hits table)
   unfolding full_by
   found_full =
-      ap (λ (l : List ℕ). length (keep (λ x. eqb (hits_in x) (size_in x)) l)) over_ways
-      ∙ ap length (keep_map (λ x. eqb (hits_in x) (size_in x)) way_pair (ways t.groups t.types))
+      ap length (keep_map (λ x. eqb (hits_in x) (size_in x)) way_pair (ways t.groups t.types))
       ∙ length-map (keep (λ m. eqb (hits_in (way_pair m)) (size_in (way_pair m))) (ways t.groups t.types)) way_pair
       ∙ ap (λ (f : ℕ → Bool). length (keep f (ways t.groups t.types))) same_full
 
@@ -243,7 +205,7 @@ module _ (t : Terms) (table : List ℕ) (g : Groups table) where
 
   -- so that what it finds is what the rule names
   pub found_with : {majors : Majors} {found' : Found} {majors' : Majors}
-      → JoinedWays t (pairs_from t.types table t.groups 0) (record { sure = 0; full = 0 }) majors found' majors'
+      → JoinedWays t (way_figures t.groups t.types table) (record { sure = 0; full = 0 }) majors found' majors'
       → FoundWith t (group_sizes table) (group_hits table) majors found' majors'
   found_with {majors} {found'} {majors'} j =
       record {
@@ -256,7 +218,7 @@ module _ (t : Terms) (table : List ℕ) (g : Groups table) where
       }
 
 -- a ticket has no more ways than there are masks
-pub start_room : (g types before : ℕ) → g ≤ 8 → before < 2 ^ 32 → Room (length (ways_from types g 0)) (record { sure = 0; full = 0 }) before
+pub start_room : (g types before : ℕ) → g ≤ 8 → before < 2 ^ 32 → Room (length (ways g types)) (record { sure = 0; full = 0 }) before
 start_room g types before few small =
-    let ways_le : length (ways_from types g 0) ≤ 255 = subst (λ (l : List ℕ). length l ≤ 255) (sym (ways_from_ways g types)) (ways_few types few) in
+    let ways_le : length (ways g types) ≤ 255 = ways_few types few in
     record { sure = omega arith; full = omega arith; majors = omega arith }

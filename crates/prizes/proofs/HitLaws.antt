@@ -1,15 +1,16 @@
 -- The table of a ticket's groups, from the words of their sizes and of their hits: the bytes of both stand at their places. A word of hits is added up
 -- ball by ball: byte by byte the counts of two lists of marks add up, and no byte runs over, as twenty balls are drawn.
-use mathlib.Core.Path.{◌≡◌, refl, sym, ap, ap₂, ◌∙◌}
+use mathlib.Core.Path.{◌≡◌, refl, sym, ap, ap₂, ◌∙◌, subst}
 use mathlib.Core.List.{List, [], ◌∷◌, ◌++◌, map, map-append, zip_with}
 use Prim.Native.Nat.{ℕ, zero, suc, ◌+◌, ◌*◌, ◌-◌, ◌/◌, ◌%◌, ◌^◌, ◌≤◌, ◌<◌}
 use native.Mathlib.Numerals.{add-one}
 use native.Mathlib.Omega.{arith}
 use lib.Dec.{eqb}
-use lib.ListN.{length, get_or, take, drop, length-append, length-take, length-map, get_or-eq_default, get_or-map}
+use lib.ListN.{length, get_or, take, drop, set, length-append, length-take, length-map, get_or-eq_default, get_or-map}
 use lib.Seq.{take_all, take-suc}
 use Rattle.std.specs.Int.{w64, byte_at, bytes_low_first, to_le_bytes}
 use Rattle.std.proofs.Math.Nat.{div-div-eq-div-mul, pow-suc}
+use Rattle.std.proofs.lemmas.List.{take_more, take_more_set}
 use Rattle.sale.specs.Lists.{keep}
 use Rattle.sale.specs.Ways.{mark_of, size_of, by_group, size_word}
 use Rattle.prizes.specs.Hits.{hits_of, hits}
@@ -142,28 +143,38 @@ bytes_std (suc k) i word =
 pub word_bytes_std : (word : ℕ) → to_le_bytes w64 word ≡ word_bytes 8 word
 word_bytes_std word = bytes_std 8 0 word ∙ ap (word_bytes 8) (omega arith)
 
--- pairs of them, place by place
-pub pairs_at : (sizes hits : ℕ) {size hit : List ℕ} → size ≡ to_le_bytes w64 sizes → hit ≡ to_le_bytes w64 hits
-    → {p₁ p₂ p₃ p₄ p₅ p₆ p₇ p₈ : ℕ}
-    → p₁ ≡ get_or size 0 0 * 4096 + get_or hit 0 0
-    → p₂ ≡ get_or size 1 0 * 4096 + get_or hit 1 0
-    → p₃ ≡ get_or size 2 0 * 4096 + get_or hit 2 0
-    → p₄ ≡ get_or size 3 0 * 4096 + get_or hit 3 0
-    → p₅ ≡ get_or size 4 0 * 4096 + get_or hit 4 0
-    → p₆ ≡ get_or size 5 0 * 4096 + get_or hit 5 0
-    → p₇ ≡ get_or size 6 0 * 4096 + get_or hit 6 0
-    → p₈ ≡ get_or size 7 0 * 4096 + get_or hit 7 0
-    → 0 ∷ p₁ ∷ p₂ ∷ p₃ ∷ p₄ ∷ p₅ ∷ p₆ ∷ p₇ ∷ p₈ ∷ [] ≡ group_table sizes hits
-unfolding zip_with
-pairs_at sizes hits s h e₁ e₂ e₃ e₄ e₅ e₆ e₇ e₈ =
-    (λ i. 0 ∷ e₁ i ∷ e₂ i ∷ e₃ i ∷ e₄ i ∷ e₅ i ∷ e₆ i ∷ e₇ i ∷ e₈ i ∷ [])
-    ∙ ap₂ (λ (xs ys : List ℕ). 0 ∷ zip_with (λ size hit. size * 4096 + hit) (eight xs) (eight ys)) (s ∙ word_bytes_std sizes) (h ∙ word_bytes_std hits)
-  where
-    eight : List ℕ → List ℕ
-    eight xs = get_or xs 0 0 ∷ get_or xs 1 0 ∷ get_or xs 2 0 ∷ get_or xs 3 0 ∷ get_or xs 4 0 ∷ get_or xs 5 0 ∷ get_or xs 6 0 ∷ get_or xs 7 0 ∷ []
-
 abbrev paired : List ℕ → List ℕ → List ℕ
 paired xs ys = zip_with (λ size hits. size * 4096 + hits) xs ys
+
+paired_at : (xs ys : List ℕ) (k : ℕ) → length xs ≡ length ys → k < length xs → get_or (paired xs ys) k 0 ≡ get_or xs k 0 * 4096 + get_or ys k 0
+unfolding zip_with
+paired_at [] ys k e h = absurd (omega arith)
+paired_at (x ∷ xs) [] k e h = absurd (omega arith)
+paired_at (x ∷ xs) (y ∷ ys) zero e h = refl
+paired_at (x ∷ xs) (y ∷ ys) (suc k) e h = paired_at xs ys k (omega arith) (omega arith)
+
+-- the pairs of a table that has so many of them: one more, from the bytes of both words
+module _ (sizes hits : ℕ) where
+  abbrev pairs : List ℕ
+  pairs = drop 1 (group_table sizes hits)
+
+  eight_pairs : length pairs ≡ 8
+  unfolding zip_with
+  eight_pairs = refl
+
+  pub pairs_more : {size hit : List ℕ} (items : List ℕ) (k : ℕ) {pair : ℕ} → size ≡ to_le_bytes w64 sizes → hit ≡ to_le_bytes w64 hits → length items ≡ 8 → k < 8
+      → take k items ≡ take k pairs → pair ≡ get_or size k 0 * 4096 + get_or hit k 0 → take (k + 1) (set items k pair) ≡ take (k + 1) pairs
+  pairs_more items k {pair} s h long inside before here =
+      take_more_set items k pair (omega arith)
+      ∙ ap₂ (λ (l : List ℕ) (n : ℕ). l ++ (n ∷ [])) before
+      (here
+      ∙ ap₂ (λ (xs ys : List ℕ). get_or xs k 0 * 4096 + get_or ys k 0) (s ∙ word_bytes_std sizes) (h ∙ word_bytes_std hits)
+      ∙ sym (paired_at (word_bytes 8 sizes) (word_bytes 8 hits) k refl inside))
+      ∙ sym (take_more pairs k 0 (omega (arith, eight_pairs)))
+
+  pub pairs_all : (items : List ℕ) (k : ℕ) → length items ≡ 8 → 8 ≤ k → take k items ≡ take k pairs → 0 ∷ items ≡ group_table sizes hits
+  pairs_all items k long all same =
+      ap (λ (l : List ℕ). 0 ∷ l) (sym (take_all k items (omega arith)) ∙ same ∙ take_all k pairs (omega (arith, eight_pairs)))
 
 sizes_back : (xs ys : List ℕ) → length xs ≡ length ys → ((k : ℕ) → get_or ys k 0 < 256) → map size_in (paired xs ys) ≡ xs
 unfolding zip_with
@@ -225,3 +236,13 @@ groups_of sizes draw marks twenty =
           ∙ ap (λ n. word_bytes n hit) (sym (length_by_group (hits_of draw marks)))
           ∙ word_bytes_lem (hits draw marks) (λ k. omega (arith, by_group_le (hits_of draw marks) 20 (hits_few draw marks twenty) k));
     }
+
+-- as the code finds them
+pub groups_by : {sizes : ℕ} {draw : Draw} {marks : List ℕ} {word : ℕ} {pairs : List ℕ} → length draw.balls ≡ 20
+    → word ≡ size_word (hits draw marks) → pairs ≡ group_table sizes word → GroupsOf sizes draw marks pairs
+groups_by {sizes} {draw} {marks} twenty w p =
+    subst (GroupsOf sizes draw marks) (sym (p ∙ ap (group_table sizes) w)) (groups_of sizes draw marks twenty)
+
+pub groups_kept : (sizes : ℕ) (draw : Draw) (marks : List ℕ) {word : ℕ} {pairs : List ℕ} → length draw.balls ≡ 20
+    → word ≡ size_word (hits draw marks) → pairs ≡ group_table sizes word → Groups pairs
+groups_kept sizes draw marks twenty w p = (groups_by {sizes = sizes} {draw = draw} {marks = marks} twenty w p).groups

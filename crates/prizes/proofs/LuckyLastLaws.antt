@@ -2,8 +2,8 @@
 use mathlib.Core.Path.{◌≡◌, refl, sym, ap, ◌∙◌}
 use mathlib.Core.Bool.{Bool, true, false, cond, not, ◌&&◌, false≢true}
 use mathlib.Core.List.{List, [], ◌∷◌}
-use Prim.Native.Nat.{ℕ, zero, suc, ◌+◌, ◌*◌, ◌-◌, ◌/◌, ◌%◌, ◌≤◌, ◌<◌}
-use native.Mathlib.Nat.{zero-add, mul-zero, mul-le-mul_right}
+use Prim.Native.Nat.{ℕ, zero, suc, ◌+◌, ◌*◌, ◌/◌, ◌≤◌}
+use native.Mathlib.Nat.{mul-zero, mul-le-mul_right}
 use native.Mathlib.Omega.{arith}
 use lib.Dec.{leb, eqb}
 use lib.ListN.{length, get_or}
@@ -90,36 +90,6 @@ numbers_of_word marks kept =
   where
     bytes_back : word_bytes (length (sizes marks)) (size_word (sizes marks)) ≡ sizes marks → word_bytes 8 (size_word (sizes marks)) ≡ sizes marks
     bytes_back back = ap (λ n. word_bytes n (size_word (sizes marks))) (sym (length_by_group (size_of marks))) ∙ back
-
--- the walk over the bytes of a word: those passed are added up, and the rest has those that are left
-pub record Passed (word rest numbers i : ℕ) : Type 0 where
-  pub within : i ≤ 8
-  pub small : numbers ≤ 255 * i
-  pub total : numbers + sum (word_bytes (8 - i) rest) ≡ sum (word_bytes 8 word)
-
-pub passed_none : (word : ℕ) → Passed word word 0 0
-passed_none word = record { within = omega arith; small = omega arith; total = zero-add (sum (word_bytes 8 word)) }
-
-pub passed_more : {word rest numbers i : ℕ} → Passed word rest numbers i → i < 8 → Passed word (rest / 256) (numbers + rest % 256) (i + 1)
-unfolding sum
-passed_more {word} {rest} {numbers} {i} p more =
-    record {
-      within = omega arith;
-      small = omega (arith, p.small);
-      total = omega (arith, p.total, next);
-    }
-  where
-    left : 8 - i ≡ suc (8 - (i + 1))
-    left = omega arith
-
-    next : sum (word_bytes (8 - i) rest) ≡ rest % 256 + sum (word_bytes (8 - (i + 1)) (rest / 256))
-    next = ap (λ n. sum (word_bytes n rest)) left
-
-pub passed_all : {word rest numbers i : ℕ} → Passed word rest numbers i → 8 ≤ i → numbers ≡ sum (word_bytes 8 word)
-unfolding sum
-passed_all {word} {rest} {numbers} {i} p all =
-    let none : 8 - i ≡ 0 = omega arith in
-    omega (arith, ap (λ n. sum (word_bytes n rest)) none, p.total)
 
 -- ---- the prize
 

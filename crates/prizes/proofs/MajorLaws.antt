@@ -1,24 +1,24 @@
--- The major prizes of a game: what a loop over them has so far, with one prize more; a list that stays one of major prizes when another is pushed; the
--- figures of a round, which follow the rule; and the state that its rounds end in, which pays what the rule pays. A member of ps is a `List.Memᴰ p ps`.
+-- The major prizes of a game: what a loop over them has so far, with one prize more; the figures of a round, which follow the rule; the state that its
+-- rounds end in, which pays what the rule pays; and what prizes are raised by. A member of ps is a `List.Memᴰ p ps`.
 use mathlib.Core.Path.{◌≡◌, refl, sym, ap, ◌∙◌, subst}
-use mathlib.Core.Logic.{◌⊎◌, inl, inr}
-use mathlib.Core.List.Memᴰ
 use mathlib.Core.List.{List, [], ◌∷◌, ◌++◌, map, map-append, Memᴰ}
-use Prim.Native.Nat.{ℕ, zero, suc, ◌+◌, ◌*◌, ◌≤◌, ◌<◌, ◌^◌}
-use native.Mathlib.Nat.{add-zero, le_of_suc-le-suc, mul-div_cancel, le_trans, mul-le-mul_right, le_of_lt}
+use Prim.Native.Nat.{ℕ, zero, suc, ◌+◌, ◌*◌, ◌-◌, ◌≤◌, ◌<◌, ◌^◌}
+use native.Mathlib.Nat.{le_of_suc-le-suc, mul-div_cancel, le_trans, mul-le-mul_right, le_of_lt}
 use native.Mathlib.Numerals.{add-one}
 use native.Mathlib.Omega.{arith}
 use lib.Dec.{ltb, leb}
-use lib.ListN.{length, take, drop, get_or, set, length-append, length-take}
+use lib.ListN.{length, take, drop, get_or, length-append, length-take}
 use Rattle.std.proofs.lemmas.List.{map-id, take-append-drop}
 use Rattle.std.proofs.lemmas.List.Recursion.{is_sum_by}
+use Rattle.std.proofs.lemmas.List.Sums.{sum-map}
+use Rattle.std.specs.List.{sum_by}
 use Rattle.std.specs.List as List_std
-use lib.Seq.{take_all, take-suc, take-suc-set}
+use lib.Seq.{take-suc}
 use borrow.Author.Tests.{lt-ltb, le-ltb, le-leb, lt-leb}
 use Rattle.sale.specs.Lists.{sum, keep}
 use Rattle.prizes.specs.Prize.{major_floor}
 use Rattle.prizes.specs.Cut.{majors_limit}
-use Rattle.prizes.specs.Rounds.{first_cut, uncut, pay_under, next_below, cut_below, Pays, IsMajorPrize, Listed}
+use Rattle.prizes.specs.Rounds.{first_cut, uncut, pay_under, next_below, cut_below, Pays, Listed, AllRaised, Raisable}
 use Rattle.prizes.specs.declared.cut.Cut.{Cut}
 use Rattle.sale.proofs.KeepLaws.{keep_append, length_keep_le, sum_within, sum_keep_split, member_le_sum}
 use Rattle.sale.proofs.WayLaws.{sum_append}
@@ -26,33 +26,22 @@ use Rattle.prizes.proofs.CutPayouts.{payout_uncut}
 use Rattle.prizes.proofs.CutStates.{StateOf, next_cut, state_first, state_step, state_pays, next_count_grows, next_count_le}
 
 -- an element is a member
-pub member_at : (xs : List ℕ) (i : ℕ) → i < length xs → Memᴰ (get_or xs i 0) xs
-member_at [] i h = absurd (omega arith)
-member_at (x ∷ xs) zero h = Memᴰ.head refl
-member_at (x ∷ xs) (suc i) h = Memᴰ.tail (member_at xs i (le_of_suc-le-suc h))
+pub member_at : (xs : List ℕ) (i d : ℕ) → i < length xs → Memᴰ (get_or xs i d) xs
+member_at [] i d h = absurd (omega arith)
+member_at (x ∷ xs) zero d h = Memᴰ.head refl
+member_at (x ∷ xs) (suc i) d h = Memᴰ.tail (member_at xs i d (le_of_suc-le-suc h))
 
 -- ---- loops over a list, by the part that they have passed
 
 take_more : (xs : List ℕ) (i : ℕ) → i < length xs → take (i + 1) xs ≡ take i xs ++ (get_or xs i 0 ∷ [])
 take_more xs i h = rw add-one (take-suc xs i 0 h)
 
-sum_one : (x : ℕ) → sum (x ∷ []) ≡ x
-unfolding sum
-sum_one x = add-zero x
-
 -- the rule book's sum is std's
 pub sum_std : (xs : List ℕ) → sum xs ≡ List_std.sum xs
 unfolding sum
 sum_std = is_sum_by sum (λ x. x) refl (λ _ _. refl)
 
-pub sum_more : (f : ℕ → ℕ) (xs : List ℕ) (i : ℕ) → i < length xs → sum (map f (take (i + 1) xs)) ≡ sum (map f (take i xs)) + f (get_or xs i 0)
-sum_more f xs i h =
-    ap (λ (l : List ℕ). sum (map f l)) (take_more xs i h)
-    ∙ ap sum (map-append f (take i xs) (get_or xs i 0 ∷ []))
-    ∙ sum_append (map f (take i xs)) (f (get_or xs i 0) ∷ [])
-    ∙ ap (λ n. sum (map f (take i xs)) + n) (sum_one (f (get_or xs i 0)))
-
--- a part of a list, and what is more in it
+-- a part of a list
 part_le : (f : ℕ → ℕ) (xs : List ℕ) (i : ℕ) → sum (map f (take i xs)) ≤ sum (map f xs)
 part_le f xs i =
     omega (
@@ -60,9 +49,6 @@ part_le f xs i =
       ap (λ (l : List ℕ). sum (map f l)) (sym (take-append-drop i xs)) ∙ ap sum (map-append f (take i xs) (drop i xs))
           ∙ sum_append (map f (take i xs)) (map f (drop i xs)),
     )
-
-pub sum_more_le : (f : ℕ → ℕ) (xs : List ℕ) (i : ℕ) → i < length xs → sum (map f (take i xs)) + f (get_or xs i 0) ≤ sum (map f xs)
-sum_more_le f xs i h = omega (arith, sum_more f xs i h, part_le f xs (i + 1))
 
 -- the figures of a round
 module _ (bound : ℕ) where
@@ -112,32 +98,6 @@ module _ (bound : ℕ) where
   pub base_le : (xs : List ℕ) → (cut_below bound xs).base ≤ sum xs
   base_le xs = omega (arith, sum_keep_split (λ p. leb bound p) xs)
 
--- ---- one more prize
-
--- a major prize behind others
-listed_end : (ps : List ℕ) (p : ℕ) → Listed ps → IsMajorPrize p → length ps < 250 → Listed (ps ++ (p ∷ []))
-listed_end ps p l major room =
-    record {
-      few = omega (arith, length-append ps (p ∷ []));
-      each = λ q m. either q (Memᴰ.append_cases ps m);
-    }
-  where
-    either : (q : ℕ) → Memᴰ q ps ⊎ Memᴰ q (p ∷ []) → IsMajorPrize q
-    either q (inl m) = l.each q m
-    either q (inr (Memᴰ.head e)) = subst IsMajorPrize (sym e) major
-    either q (inr (Memᴰ.tail m)) = elim m [ ]
-
-pub listed_stored : (table : List ℕ) (n p : ℕ) → length table ≡ 250 → Listed (take n table) → IsMajorPrize p → n < 250 → Listed (take (n + 1) (set table n p))
-listed_stored table n p long l major room =
-    subst Listed (sym (ap (λ k. take k (set table n p)) (add-one n) ∙ take-suc-set table n p (omega (arith, long))))
-    (listed_end (take n table) p l major (omega (arith, length-take n table, long)))
-
-pub listed_past : (table : List ℕ) (n : ℕ) → length table ≡ 250 → Listed (take n table) → 250 ≤ n → Listed (take (n + 1) table)
-listed_past table n long l past =
-    let all : take n table ≡ table = take_all n table (omega (arith, long)) in
-    let more : take (n + 1) table ≡ table = take_all (n + 1) table (omega (arith, long)) in
-    subst Listed (all ∙ sym more) l
-
 -- ---- the rounds
 
 module _ (prizes : List ℕ) (l : Listed prizes) where
@@ -151,6 +111,9 @@ module _ (prizes : List ℕ) (l : Listed prizes) where
 
   pub total_small : sum prizes ≤ 250 * 2 ^ 40
   total_small = omega (arith, listed_small, ap sum (map-id prizes))
+
+  pub total_fits : List_std.sum prizes < 2 ^ 64
+  total_fits = omega (arith, sum_std prizes, total_small)
 
   -- and those above a bound are a part of them
   pub rest_small : (bound : ℕ) → (cut_below bound prizes).base ≤ 250 * 2 ^ 40
@@ -202,3 +165,28 @@ module _ (prizes : List ℕ) (l : Listed prizes) where
             rw (le-leb major_floor p (l.each p m).large, le-ltb p 0 (omega arith), le-leb p majors_limit most)
             (mul-div_cancel p (omega arith) ∙ sym (payout_uncut prizes p within));
       }
+
+-- ---- what prizes are raised by
+
+-- the rule book's sum of it is std's
+pub sum_raised : (cut : Cut) (ps : List ℕ) → sum (map (λ p. pay_under cut p - major_floor) ps) ≡ sum_by (λ p. pay_under cut p - major_floor) ps
+sum_raised cut ps = sum_std (map (λ p. pay_under cut p - major_floor) ps) ∙ sum-map (λ p. pay_under cut p - major_floor) ps
+
+-- and it fits
+pub raised_fits : {cut : Cut} {ps : List ℕ} → AllRaised cut ps → sum_by (λ p. pay_under cut p - major_floor) ps < 2 ^ 64
+raised_fits {cut} {ps} r =
+    omega (
+      arith,
+      sum_raised cut ps,
+      sum_within (λ p. pay_under cut p - major_floor) majors_limit ps (λ p m. omega (arith, r.most p m)),
+      mul-le-mul_right majors_limit r.few,
+    )
+
+-- prizes of a table, from a place on and so many
+pub part_from : (table : List ℕ) (from many : ℕ) → take (from + many - from) (drop from table) ≡ take many (drop from table)
+part_from table from many = ap (λ n. take n (drop from table)) (omega arith)
+
+pub part_raised : {cut : Cut} {table : List ℕ} {from many : ℕ} → Raisable cut table from many → AllRaised cut (take (from + many - from) (drop from table))
+part_raised {cut} {table} {from} {many} r =
+    subst (AllRaised cut) (sym (part_from table from many))
+    (record { few = omega (arith, length-take many (drop from table), r.inside); small = r.small; least = r.least; most = r.most })

@@ -1,15 +1,14 @@
 -- The shares of a jackpot's primary: each share as the code computes it, all of them within the primary, fewer odd cents than winning ways, and
 -- so all of the primary paid out. Each rounded quotient is held between its bounds, times the stakes.
 use mathlib.Core.Path.{◌≡◌, refl, sym, ap, ◌∙◌}
-use mathlib.Core.Bool.{Bool, true, false, cond, ◌||◌}
+use mathlib.Core.Bool.{Bool, true, false, cond}
 use mathlib.Core.List.{List, [], ◌∷◌, map}
 use Prim.Native.Nat.{ℕ, zero, suc, ◌+◌, ◌*◌, ◌-◌, ◌/◌, ◌%◌, ◌≤◌, ◌<◌, min}
-use native.Mathlib.Nat.{add-mul, mul-add, mul_assoc, mul_left_comm, mul_right_comm, zero-mul, sub-zero, sub-add-eq, le_trans, le_of_mul-le-mul_right, lt_of_mul-lt-mul_right, mul-le-mul_left, div-mul-le_self, div-add-mod', lt-div-mul-add, mul-add-div_right}
+use native.Mathlib.Nat.{add-mul, mul-add, mul_assoc, mul_left_comm, mul_right_comm, zero-mul, le_trans, le_of_mul-le-mul_right, lt_of_mul-lt-mul_right, mul-le-mul_left, div-mul-le_self, div-add-mod', lt-div-mul-add, mul-add-div_right}
 use native.Mathlib.Omega.{arith}
-use lib.Dec.{eqb}
-use lib.ListN.{length, take, drop, length-map}
-use borrow.Author.Tests.{ltb-true, eqb-true}
-use Rattle.sale.specs.Lists.{sum, any, member}
+use lib.ListN.{length, length-map}
+use borrow.Author.Tests.{ltb-true}
+use Rattle.sale.specs.Lists.{sum}
 use Rattle.prizes.specs.Jackpots.{Winner, winning_stakes, share_of, odd_cents, shares_from, jackpot_won, jackpot_shares}
 
 -- the rounded shares of all winning ways
@@ -72,25 +71,6 @@ module _ (p s : ℕ) (pos : 0 < s) where
         add-mul (w.count * share_of p s w.stake + w.count) (whole_shares p s ws + winning_ways ws) s,
         mul-add p (w.count * w.stake) (winning_stakes ws),
       )
-
--- a sum of numbers is at least each of them
-pub member_le_sum : (x : ℕ) (xs : List ℕ) → member x xs ≡ true → x ≤ sum xs
-unfolding sum any member
-member_le_sum x [] h = let none : ◌≡◌ {A = ℕ} 0 1 = cc in omega arith
-member_le_sum x (y ∷ ys) h = go (eqb x y) refl h (λ m. member_le_sum x ys m)
-  where
-    go : (t : Bool) → eqb x y ≡ t → (t || member x ys) ≡ true → (member x ys ≡ true → x ≤ sum ys) → x ≤ y + sum ys
-    go true same m later = omega (arith, eqb-true x y same)
-    go false other m later = omega (arith, later m)
-
--- the tickets from a place on, with the odd cents that are left there
-pub shares_from_drop : (odd p s : ℕ) (ws : List Winner) (i : ℕ) →
-    drop i (shares_from odd p s ws) ≡ shares_from (odd - winning_ways (take i ws)) p s (drop i ws)
-unfolding sum shares_from
-shares_from_drop odd p s ws zero = rw sub-zero
-shares_from_drop odd p s [] (suc i) = refl
-shares_from_drop odd p s (w ∷ ws) (suc i) =
-    rw (sub-add-eq odd w.count) (shares_from_drop (odd - w.count) p s ws i)
 
 -- all of them: the shares, and an odd cent for each way while there are any
 pub sum_shares_from : (odd p s : ℕ) (ws : List Winner) → sum (shares_from odd p s ws) ≡ whole_shares p s ws + min odd (winning_ways ws)

@@ -1,14 +1,12 @@
 -- What one pass over a ticket's ways finds in a drawn game, as the code carries it and stores it. Only contracts speak of these; the laws in
 -- proofs/FoundLaws join them to the rule's prizes.
-use Rattle.std.specs.Prelude.{ℕ, zero, suc, ◌+◌, ◌*◌, ◌-◌, ◌/◌, ◌%◌, ◌^◌, ◌≤◌, ◌<◌, min, ◌≡◌, Bool, cond, eqb, length, drop, get_or}
+use Rattle.std.specs.Prelude.{ℕ, zero, suc, ◌+◌, ◌*◌, ◌/◌, ◌%◌, ◌^◌, ◌≤◌, ◌<◌, min, ◌≡◌, eqb, length, drop, get_or}
 use mathlib.Core.List.{List, [], ◌∷◌, map, zip_with}
 use Rattle.std.proofs.lemmas.List.Edits.{sets}
 use Rattle.sale.specs.Lists.{sum, keep}
 use Rattle.prizes.specs.Hits.{hits}
-use Rattle.sale.specs.Ways.{mask_sum}
 use Rattle.prizes.specs.Prize.{major_floor, is_major, prize}
 use Rattle.prizes.specs.Settle.{prizes_by, full_by}
-use Rattle.sale.specs.Passes.{ways_from}
 use Rattle.sale.specs.declared.terms.Kind.{Kind}
 use Rattle.prizes.specs.declared.draw.Draw.{Draw}
 use Rattle.sale.specs.declared.terms.Terms.{Terms}
@@ -51,19 +49,10 @@ pub record GroupsOf (word : ℕ) (draw : Draw) (marks table : List ℕ) : Type 0
   pub sizes : group_sizes table ≡ word_bytes 8 word
   pub hits : group_hits table ≡ hits draw marks
 
--- what the walk carries to a place: the groups taken so far, added
-pub record Carries (left mask pair : ℕ) (table : List ℕ) : Type 0 where
-  pub added : pair ≡ mask_sum mask (drop (suc left) table)
-  pub small : pair ≤ 2 ^ 20 * (8 - left)
-
 -- ---- the figures of ways
 
 abbrev pub prize_in : Kind → ℕ → ℕ → ℕ
 prize_in kind stake pair = prize kind stake (size_in pair) (hits_in pair)
-
--- the ways that begin with the groups in a mask
-abbrev pub pairs_from : ℕ → List ℕ → ℕ → ℕ → List ℕ
-pairs_from types table left mask = map (λ m. mask_sum m (drop 1 table)) (ways_from types left mask)
 
 -- no cut goes below the floor of major prizes, so that this much of a prize is paid in any case
 abbrev pub sure_of : ℕ → ℕ
@@ -96,10 +85,6 @@ JoinedWays t pairs =
     (sum (map (λ x. sure_of (prize_in t.kind t.stake x)) pairs))
     (length (keep (λ x. eqb (hits_in x) (size_in x)) pairs))
     (majors_among t.kind t.stake pairs)
-
--- a mask that is a way, or none
-abbrev pub way_or_none : Bool → ℕ → List ℕ
-way_or_none t pair = cond t (pair ∷ []) []
 
 -- so many major prizes before a ticket's that their count fits
 pub record Counting (before : ℕ) : Type 0 where

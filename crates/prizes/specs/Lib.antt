@@ -9,3 +9,4 @@ pub mod Settle
 pub mod Found
 pub mod Rounds
 pub mod Bounds
+pub mod Finding

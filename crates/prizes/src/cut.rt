@@ -12,7 +12,8 @@ pub const MAJORS_LIMIT: u64 = 5_000_000;
 // So many floors make the most for a game: from as many major prizes on, each is paid the floor.
 pub const FLOORS_IN_LIMIT: u64 = 250;
 
-// A round of the cut: the floored prizes are those below `below`, `count` of them, and the others make `base` cents.
+// A round of the cut: the floored prizes are those below `below`, `count` of them, and the others make `base` cents. The same figures say
+// that none is floored before the first round, so that no flag does. They keep no fact: `first` takes any base, and each part asks for what it needs.
 #[derive(Clone, Copy)]
 pub struct Cut {
     pub below: u64,
@@ -32,15 +33,12 @@ impl Cut {
         }
     }
 
-    // The state under which no prize is cut: each is its own part of the most for a game.
+    // The state under which no prize is cut: each is its own part of the most for a game. No `Option<Cut>`: by the same formula each prize is paid its own
+    // amount under this state, so that callers know one case.
     pub fn none() -> Cut
         ensures { result ≡ uncut }
     {
-        Cut {
-            below: 0,
-            count: 0,
-            base: MAJORS_LIMIT,
-        }
+        Cut::first(MAJORS_LIMIT)
     }
 
     // What the prizes outside the floored share of the most for a game, 0 where the floored take it all.
@@ -88,5 +86,5 @@ fn rounded_up(base: u64, part: u64) -> u64
     requires { Divided base part }
     ensures { result ≡ major_floor * (base / part) + (major_floor * (base % part) + (part - 1)) / part }
 {
-    MAJOR_FLOOR * (base / part) + (MAJOR_FLOOR * (base % part) + (part - 1)) / part
+    MAJOR_FLOOR * (base / part) + (MAJOR_FLOOR * (base % part)).div_ceil(part)
 }

@@ -31,6 +31,7 @@ pub struct GroupTable {
 
 impl GroupTable {
     // From the word of the groups' sizes.
+    #[tactic(auto, using(crate::proofs::HitLaws::groups_by, crate::proofs::HitLaws::groups_kept))]
     pub fn of(sizes: u64, draw: Draw, marks: &[u8]) -> GroupTable
         requires { Grouping marks.now }
         ensures { GroupsOf sizes draw marks.now result.pairs }
@@ -75,21 +76,15 @@ fn pair_of(size: u8, hits: u8) -> u32
     size as u32 * 4096 + hits as u32
 }
 
-// The pairs of the groups, from the words of their sizes and of their hits.
+// The pairs of the groups, from the words of their sizes and of their hits. By place: after a `zip` with what is written nothing is known of it.
 fn pairs_of(sizes: u64, hits: u64) -> [u32; 9]
     ensures { result ≡ group_table sizes hits }
 {
     let size = sizes.to_le_bytes();
     let hit = hits.to_le_bytes();
-    [
-        0,
-        pair_of(size[0], hit[0]),
-        pair_of(size[1], hit[1]),
-        pair_of(size[2], hit[2]),
-        pair_of(size[3], hit[3]),
-        pair_of(size[4], hit[4]),
-        pair_of(size[5], hit[5]),
-        pair_of(size[6], hit[6]),
-        pair_of(size[7], hit[7]),
-    ]
+    let mut pairs = [0; 9];
+    for (k, pair) in pairs[1..].iter_mut().enumerate() {
+        *pair = pair_of(size[k], hit[k]);
+    }
+    pairs
 }

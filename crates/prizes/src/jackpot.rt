@@ -41,7 +41,8 @@ impl Jackpot {
         }
     }
 
-    // The seed that is needed after the primary was won. `won` is no Option of a seed: one of 0 is a seed too.
+    // The seed that is needed after the primary was won. `won` stands beside the guarantee: that is the jackpot's own whether or not it was won, and `won` is
+    // the rule's condition, so that an Option of the guarantee would be made for the call alone.
     #[tactic(auto, unfolding(crate::specs::Jackpots::seed_of))]
     pub fn seed(self, won: bool, guarantee: u64) -> u64
         ensures { result ≡ seed_of won guarantee self }
@@ -92,7 +93,8 @@ impl Jackpot {
     }
 }
 
-// A winning way's share, rounded down. The quotient is taken first: primary × stake can pass 64 bits.
+// A winning way's share, rounded down. The quotient is taken first: primary × stake can pass 64 bits. The primary and the stakes are two numbers here: what has
+// both, with the tickets that share, stands in a crate above (`Primary` of `settlement`).
 #[tactic(auto, using(crate::proofs::ShareLaws::share_by_parts))]
 pub fn share_of(primary: u64, stakes: u64, stake: u32) -> u64
     requires { Sharing primary stakes 1 stake }

@@ -1,5 +1,5 @@
 // Lucky Last: what the feature pays where the last ball of a game is among the ticket's numbers.
-ghost use Rattle.std.specs.Prelude.{◌≡◌, ◌≤◌, length, sum as total};
+ghost use Rattle.std.specs.Prelude.{◌≡◌};
 ghost use Rattle.sale.specs.Lists.{sum};
 ghost use Rattle.prizes.specs.Found.{word_bytes};
 ghost use Rattle.prizes.specs.Bounds.{KeptSizes};
@@ -17,15 +17,7 @@ const CENTS: [u16; 16] = [
 fn numbers_in(word: u64) -> u64
     ensures { result ≡ sum (word_bytes 8 word) }
 {
-    sum_of(&word.to_le_bytes())
-}
-
-// The bytes together.
-fn sum_of(sizes: &[u8]) -> u64
-    requires { length sizes.now ≤ 8 }
-    ensures { result ≡ total sizes.now }
-{
-    sizes.iter().map(|size| u64::from(*size)).sum()
+    word.to_le_bytes().iter().map(|size| u64::from(*size)).sum()
 }
 
 // The cents for one dollar: none for more numbers than the rule has.
@@ -33,11 +25,9 @@ fn sum_of(sizes: &[u8]) -> u64
 fn cents_for(numbers: u64) -> u64
     ensures { result ≡ lucky_last_cents numbers }
 {
-    let cents = CENTS;
-    match cents.get(numbers as usize) {
-        Some(cents) => u64::from(*cents),
-        None => 0,
-    }
+    CENTS
+        .get(numbers as usize)
+        .map_or(0, |cents| u64::from(*cents))
 }
 
 // The feature prize of a ticket, from its marks, the word of its groups' sizes and its feature stake.

@@ -1,19 +1,19 @@
 // The major prizes of a game, of which the first 250 are stored, and what each is paid: the rounds of the cut go over them (rules 12.3 to 12.5).
 // From 250 on each is paid the floor, and none is looked at.
-ghost use Rattle.std.specs.Prelude.{◌≡◌, map, ◌+◌, ◌-◌, ◌<◌, ◌≤◌, ◌^◌, set, take, drop, sum as total};
+ghost use Rattle.std.specs.Prelude.{◌≡◌, map, ◌+◌, ◌-◌, ◌<◌, ◌≤◌, ◌^◌, set, take, drop};
 ghost use Rattle.sale.specs.Lists.{sum};
 ghost use Rattle.prizes.specs.Prize.{major_floor};
-ghost use Rattle.prizes.specs.Rounds.{pay_under, cut_below, Pays, Listed, IsMajorPrize, PastLimit, Raisable, AllRaised};
+ghost use Rattle.prizes.specs.Rounds.{pay_under, cut_below, Pays, Listed, PastLimit, Raisable, AllRaised};
 
 use crate::cut::{Cut, FLOORS_IN_LIMIT, MAJORS_LIMIT};
 use crate::prize::MAJOR_FLOOR;
 
-// The major prizes so far: how many there are, and the first 250 of them.
+// The major prizes so far: how many there are, and the first 250 of them. The count goes on past 250, so that it is no length of a list: an `ArrayVec`
+// would stop there. They keep no fact: a pass takes whatever is stored before it, and the cut asks that it is major prizes (`Listed`).
 #[derive(Drop)]
 pub struct Majors {
     pub prizes: [u64; 250],
     pub count: u64,
-    ghost listed: { Listed (take count prizes) },
 }
 
 impl Majors {
@@ -29,7 +29,6 @@ impl Majors {
 
     // One more, which is stored where it is among the first 250.
     pub fn push(&mut self, cents: u64)
-        requires major { IsMajorPrize cents }
         requires room { self.old.count + 1 < 2 ^ 64 }
         ensures count { self.new.count ≡ self.old.count + 1 }
         ensures stored { self.new.prizes ≡ set self.old.prizes self.old.count cents }
@@ -41,12 +40,14 @@ impl Majors {
     }
 
     // The state of the cut under which they are paid what the rule says. They are cut where they pass the most for a game.
+    #[tactic(auto, using(crate::proofs::MajorLaws::sum_std, crate::proofs::MajorLaws::uncut_pays))]
     pub fn cut(&self) -> Cut
-        requires { self.now.count ≤ 250 }
+        requires few { self.now.count ≤ 250 }
+        requires listed { Listed (take self.now.count self.now.prizes) }
         ensures { Pays result (take self.now.count self.now.prizes) }
     {
         let prizes = &self.prizes[..self.count as usize];
-        let total = sum_of(prizes);
+        let total = prizes.iter().sum();
         if total <= MAJORS_LIMIT {
             Cut::none()
         } else {
@@ -55,6 +56,7 @@ impl Majors {
     }
 
     // What the prizes from a place on, `many` of them, are paid above the floor.
+    #[tactic(auto, using(crate::proofs::MajorLaws::part_raised, crate::proofs::MajorLaws::part_from))]
     pub fn raise(&self, from: usize, many: usize, cut: Cut) -> u64
         requires { Raisable cut self.now.prizes from many }
         ensures { result ≡ sum (map (λ p. pay_under cut p - major_floor) (take many (drop from self.now.prizes))) }
@@ -68,19 +70,10 @@ fn raised(prizes: &[u64], cut: Cut) -> u64
     requires { AllRaised cut prizes.now }
     ensures { result ≡ sum (map (λ p. pay_under cut p - major_floor) prizes.now) }
 {
-    let mut total = 0;
-    for prize in prizes {
-        total += cut.payout(*prize) - MAJOR_FLOOR;
-    }
-    total
-}
-
-// The prizes together.
-fn sum_of(prizes: &[u64]) -> u64
-    requires { total prizes.now < 2 ^ 64 }
-    ensures { result ≡ total prizes.now }
-{
-    prizes.iter().sum()
+    prizes
+        .iter()
+        .map(|prize| cut.payout(*prize) - MAJOR_FLOOR)
+        .sum()
 }
 
 // The state of the cut in which the prizes below a bound are floored.

@@ -18,8 +18,7 @@ pub fn dollars_of(kind: Kind, selection: u32, matched: u32, table: &PrizeTable) 
 {
     match kind {
         Kind::Jackpot if matched == selection => 0,
-        Kind::Jackpot => table.standard(selection, matched),
-        Kind::Standard => table.standard(selection, matched),
+        Kind::Standard | Kind::Jackpot => table.standard(selection, matched),
         Kind::Special(Schedule::One) => table.special_one(selection, matched),
         Kind::Special(Schedule::Two) => table.special_two(selection, matched),
     }

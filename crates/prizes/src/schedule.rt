@@ -4,9 +4,9 @@ ghost use Rattle.std.specs.Prelude.{◌≡◌, get_or};
 ghost use Rattle.prizes.specs.Schedules.{standard_rows, special_one_rows, special_two_rows, cell};
 ghost use Rattle.prizes.specs.ScheduleTable.{start_in, run_in, low_in, prize_by, WordAt, Schedules};
 
-// At most 528 bytes are allowed, so a word has three numbers in its four hexadecimal digits: two for the place of the selection's first cell, one for the
-// match with which its run begins, one for how many low matches pay, from 0 on. A selection's cells are those of its low matches and then those of its
-// run, which goes up to all its numbers.
+// A word has three numbers in its four hexadecimal digits, so that one load finds all that a selection's word says, and most matches pay nothing by it alone:
+// two digits for the place of the selection's first cell, one for the match with which its run begins, one for how many low matches pay, from 0 on. A
+// selection's cells are those of its low matches and then those of its run, which goes up to all its numbers. docs/DECISIONS.md has the layouts measured.
 const TABLE: [u16; 132] = [
     0x15_1_0, // rule 18.1, 1 number
     0x16_2_0, // rule 18.1, 2 numbers
@@ -107,8 +107,8 @@ impl PrizeTable {
         self.cells[start + low as usize + (matched - run) as usize]
     }
 
-    // Rule 18.1. The three rules differ in which selections they have, so that one function of a rule would be a match of all three; what they share is
-    // `row_prize`.
+    // Rule 18.1. The three rules differ in which selections they have, so that one function by the rule, be it a parameter or a const one, would be a match
+    // of all three; what they share is `row_prize`.
     pub fn standard(&self, selection: u32, matched: u32) -> u16
         ensures { result ≡ cell standard_rows selection matched }
     {
@@ -141,7 +141,7 @@ impl PrizeTable {
     }
 }
 
-// The place of a selection's first cell, from its word.
+// The place of a selection's first cell, from its word. The digits of a packed word are read by division, here and below: no type of std has such digits.
 fn start_of(word: u16) -> usize
     ensures { result ≡ start_in word }
 {

@@ -1,14 +1,17 @@
--- The till's sums over the live tickets, as sums over rows: what is owed and held reads no marks, each turn of a loop adds one row more, and
+-- The till's sums over the live tickets, as sums over rows: what is owed and held reads no marks, an iterator over the places adds it up, and
 -- what stands in the rows of a house that comes from a fresh one by commands fits.
 use Prim.Native.Nat.{ℕ, zero, suc, ◌+◌, ◌-◌, ◌≤◌, ◌<◌, ◌^◌, min, max}
-use mathlib.Core.Path.{◌≡◌, refl, ap, ◌∙◌, subst, subst⁻¹}
-use mathlib.Core.List.{List, [], map, map-map}
-use native.Mathlib.Nat.{add-zero}
+use mathlib.Core.Path.{◌≡◌, refl, sym, ap, ◌∙◌, subst, subst⁻¹}
+use mathlib.Core.List.{List, [], ◌∷◌, ◌++◌, map, map-map, map-append}
+use native.Mathlib.Nat.{zero-add}
 use native.Mathlib.Numerals.{add-one}
 use native.Mathlib.Omega.{arith}
 use lib.Dec.{ltb}
+use Rattle.std.specs.List.{range_with_len, sum as sum_of}
+use Rattle.std.proofs.lemmas.List.FromFn.{map-range_with_len_more}
 use Rattle.sale.specs.Lists.{sum, below}
 use Rattle.prizes.specs.Jackpots.{pooled}
+use Rattle.prizes.proofs.MajorLaws.{sum_std}
 use Rattle.house.specs.Tickets.{paid_stakes, held_for}
 use Rattle.house.specs.Commands.{blank_ticket}
 use Rattle.house.specs.Till.{till_of}
@@ -20,7 +23,6 @@ use Rattle.house.specs.declared.rows.Row.{Row}
 use Rattle.queries.specs.declared.till.Till.{Till}
 use Rattle.house.proofs.Ledger.{Kept}
 use Rattle.house.proofs.ReachedHouses.{Sure, reached_sure}
-use Rattle.house.proofs.MoneyLaws.{sum_snoc}
 use Rattle.house.proofs.Bounded.{span_paid_within}
 use Rattle.house.proofs.RisingNumbers.{all_at}
 use Rattle.house.proofs.RowLists.{get_or_table}
@@ -30,24 +32,19 @@ use Rattle.house.proofs.ViewLaws.{live_count}
 abbrev pub total : (ℕ → ℕ) → ℕ → ℕ
 total f n = sum (map f (below n))
 
-pub total_none : (f : ℕ → ℕ) → total f 0 ≡ 0
-unfolding below sum
-total_none f = refl
-
-pub total_more : (f : ℕ → ℕ) (n : ℕ) → total f (n + 1) ≡ total f n + f n
+-- the numbers below n are a range's
+below_range : (f : ℕ → ℕ) (n : ℕ) → map f (range_with_len 0 n) ≡ map f (below n)
 unfolding below
-total_more f n = ap (total f) (add-one n) ∙ sum_snoc f (below n) n
+below_range f zero = refl
+below_range f (suc n) =
+    ap (λ k. map f (range_with_len 0 k)) (sym (add-one n))
+    ∙ map-range_with_len_more f 0 n n (zero-add n)
+    ∙ ap (λ l. l ++ (f n ∷ [])) (below_range f n)
+    ∙ sym (map-append f (below n) (n ∷ []))
 
-total_grown : (f : ℕ → ℕ) (i k : ℕ) → total f i ≤ total f (i + k)
-total_grown f i zero = omega (arith, ap (total f) (add-zero i))
-total_grown f i (suc k) =
-    let e : i + suc k ≡ i + k + 1 = omega arith in
-    omega (arith, ap (total f) e, total_more f (i + k), total_grown f i k)
-
-pub total_part : (f : ℕ → ℕ) (i n : ℕ) → i ≤ n → total f i ≤ total f n
-total_part f i n h =
-    let e : n ≡ i + (n - i) = omega arith in
-    omega (arith, ap (total f) e, total_grown f i (n - i))
+-- so that what an iterator adds up over a range is the sum
+pub range_total : (f : ℕ → ℕ) (n : ℕ) → sum_of (map f (range_with_len 0 n)) ≡ total f n
+range_total f n = sym (sum_std (map f (range_with_len 0 n))) ∙ ap sum (below_range f n)
 
 -- what is owed to the ticket of a row, and held for it
 abbrev pub due_at : List ℕ → ℕ → ℕ
@@ -112,13 +109,11 @@ module _ (h : House) (words : List ℕ) (comes : ComesWith h words) where
       subst⁻¹ (λ (v : Row). PaidWithin (max v.first h.game) v.stop v) read
       (record { within = span_paid_within h.game (max t.first h.game) t.stop t (row_kept i b) (omega arith) })
 
-  pub owed_fits : (i : ℕ) → i ≤ h.live → total (due_at words) i < 2 ^ 62
-  owed_fits i b =
-      omega (arith, total_part (due_at words) i h.live b, owed_rows h words comes.marks, comes_sure.fit.figures.owed)
+  pub owed_fits : total (due_at words) h.live < 2 ^ 62
+  owed_fits = omega (arith, owed_rows h words comes.marks, comes_sure.fit.figures.owed)
 
-  pub held_fits : (i : ℕ) → i ≤ h.live → total (held_at h.game words) i < 2 ^ 62
-  held_fits i b =
-      omega (arith, total_part (held_at h.game words) i h.live b, held_rows h words comes.marks, comes_sure.fit.figures.held)
+  pub held_fits : total (held_at h.game words) h.live < 2 ^ 62
+  held_fits = omega (arith, held_rows h words comes.marks, comes_sure.fit.figures.held)
 
   pub pooled_fits : pooled h.six + pooled h.eight < 2 ^ 62
   unfolding till_of view

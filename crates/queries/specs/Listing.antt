@@ -1,7 +1,9 @@
 -- "The live list writes each live ticket's number once, 4 bytes each, into a lent buffer and answers how many; [..] bytes beyond are untouched.
 -- [..] 30 buffer under 4 × live tickets", and the count room's "It shall come in rising ticket number, and the buffer then has one possible content."
-use Rattle.std.specs.Prelude.{ℕ, ◌*◌, ◌<◌, ◌≡◌, Bool, cond, List, [], ◌∷◌, ◌++◌, map, ltb, eqb, length, drop, get_or}
+use Rattle.std.specs.Prelude.{ℕ, ◌*◌, ◌<◌, ◌≡◌, Bool, cond, List, [], ◌∷◌, ◌++◌, map, ltb, eqb, length, drop, get_or, Result, Ok, Err}
 use Rattle.numbers.specs.Bytes.{bytes_of}
+use Rattle.refusals.specs.Refusal.{refusal_number}
+use Rattle.refusals.specs.declared.refusal.Refusal.{Refusal}
 use Rattle.sale.specs.Lists.{keep}
 use Rattle.house.specs.Model.{Model}
 use Rattle.house.specs.Commands.{has_ticket}
@@ -23,6 +25,11 @@ too_short m buffer = ltb (length buffer) (4 * length m.live)
 unfoldable pub list_answer : Model → List ℕ → Listed
 list_answer m buffer =
     cond (too_short m buffer) (record { code = 30; count = 0 }) (record { code = 0; count = length m.live })
+
+-- what a host reads of how the list ends
+abbrev pub host_list : Result ℕ Refusal → Listed
+host_list (Ok count) = record { code = 0; count = count }
+host_list (Err refusal) = record { code = refusal_number refusal; count = 0 }
 
 -- the whole buffer afterwards: the numbers and then the rest as it was, or all as it was
 unfoldable pub list_buffer : Model → List ℕ → List ℕ

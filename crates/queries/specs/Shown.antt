@@ -1,5 +1,5 @@
 -- The till and the pools as a caller gets them: the nine figures, retained with its sign.
-use Rattle.std.specs.Prelude.{ℕ, ◌≡◌, ◌<◌, ◌-◌, min, max, ltb}
+use Rattle.std.specs.Prelude.{◌-◌, min, max, ltb}
 use Rattle.house.specs.Model.{Model}
 use Rattle.house.specs.Till.{Figures}
 use Rattle.queries.specs.declared.till.Till.{Till}
@@ -24,7 +24,3 @@ shown_till f =
 -- the pools and the debt of each jackpot
 abbrev pub pools_of : Model → Pools
 pools_of m = record { six = m.six; eight = m.eight }
-
--- what is answered at each of the first places is what `at` tells
-abbrev pub Tells : (ℕ → ℕ) → ℕ → (ℕ → ℕ → Type 0) → Type 0
-Tells at live answers = (i figure : ℕ) → i < live → answers i figure → figure ≡ at i

@@ -1,16 +1,14 @@
 // What can be read off the house: the nine figures of the till, and the jackpots' pools.
-ghost use Rattle.std.specs.Prelude.{◌≡◌, List, [], map, ℕ, ◌^◌, ◌<◌, max};
-ghost use Rattle.sale.specs.Lists.{sum, below};
+ghost use Rattle.std.specs.Prelude.{◌≡◌, List, [], ℕ, ◌^◌, ◌<◌, max};
 ghost use Rattle.prizes.specs.Jackpots.{pooled};
 ghost use Rattle.house.specs.Till.{till_of};
-ghost use Rattle.queries.specs.Shown.{Tells, shown_till, pools_of};
+ghost use Rattle.queries.specs.Shown.{shown_till, pools_of};
 ghost use Rattle.house.specs.Tickets.{held_for};
 ghost use Rattle.house.specs.View.{row_at, ticket_in, IsRow, PaidWithin, view};
 ghost use Rattle.house.specs.Parts.{ComesWith};
 
 use house::rows::read_row;
 use house::state::House;
-use house::ticket::held_for;
 use prizes::jackpot::Jackpot;
 
 // The nine figures in document 01's order. Retained is its size, and `negative` says whether it is below zero: a flag beside a size, since the
@@ -57,46 +55,36 @@ fn pooled_in(jackpot: Jackpot) -> u64
     jackpot.primary + jackpot.secondary + jackpot.reimbursement
 }
 
-// A figure of each live ticket, added up: `at` tells what the figure is at each place.
-fn total_of<F: Fn(usize) -> u64>(live: usize, figure: F) -> u64
-    requires asked { (i : ℕ) → i < live → F.pre figure i }
-    requires fits { (at : ℕ → ℕ) × Tells at live (F.post figure) × (sum (map at (below live)) < 2 ^ 62) }
-    ensures { (at : ℕ → ℕ) → Tells at live (F.post figure) → result ≡ sum (map at (below live)) }
-{
-    let mut sum = 0;
-    for i in 0..live {
-        sum += figure(i);
-    }
-    sum
-}
-
-// What is held for all live tickets.
-fn held_of(house: House, rows: &[u64; 3200]) -> u64
-    requires { ComesWith house rows.now }
-    ensures { (marks : List ℕ) → result ≡ (till_of (view house rows.now marks)).held }
+// What is held for all live tickets. That the house comes from commands with its rows is a clause, here and below: a host lends the two apart, so that it
+// is a fact of neither.
+fn held_of(house: &House, rows: &[u64; 3200]) -> u64
+    requires { ComesWith house.now rows.now }
+    ensures { (marks : List ℕ) → result ≡ (till_of (view house.now rows.now marks)).held }
 {
     let game = house.game;
-    total_of(
-        house.live as usize,
-        |i|
-            requires { IsRow i × PaidWithin (max (row_at rows.now i).first game) (row_at rows.now i).stop (row_at rows.now i) }
-            ensures { result ≡ held_for game (ticket_in rows.entry.now [] i) }
-        { held_for(game, read_row(rows, i)) },
-    )
+    (0..house.live as usize)
+        .map(
+            |i|
+                requires { IsRow i × PaidWithin (max (row_at rows.now i).first game) (row_at rows.now i).stop (row_at rows.now i) }
+                ensures { result ≡ held_for game (ticket_in rows.entry.now [] i) }
+            { read_row(rows, i).held_for(game) },
+        )
+        .sum()
 }
 
 // What is owed to all live tickets.
-fn owed_of(house: House, rows: &[u64; 3200]) -> u64
-    requires { ComesWith house rows.now }
-    ensures { (marks : List ℕ) → result ≡ (till_of (view house rows.now marks)).owed }
+fn owed_of(house: &House, rows: &[u64; 3200]) -> u64
+    requires { ComesWith house.now rows.now }
+    ensures { (marks : List ℕ) → result ≡ (till_of (view house.now rows.now marks)).owed }
 {
-    total_of(
-        house.live as usize,
-        |i|
-            requires { IsRow i }
-            ensures { result ≡ (row_at rows.entry.now i).due }
-        { read_row(rows, i).due },
-    )
+    (0..house.live as usize)
+        .map(
+            |i|
+                requires { IsRow i }
+                ensures { result ≡ (row_at rows.entry.now i).due }
+            { read_row(rows, i).due },
+        )
+        .sum()
 }
 
 // The nine figures of the till. Held and owed are counted from the rows.
@@ -110,8 +98,8 @@ pub fn till_of(house: House, rows: &[u64; 3200]) -> Till
         seeds: counters.seeds,
         paid: counters.paid,
         refunded: counters.refunded,
-        owed: owed_of(house, rows),
-        held: held_of(house, rows),
+        owed: owed_of(&house, rows),
+        held: held_of(&house, rows),
         unclaimed: counters.unclaimed,
         pooled: pooled_in(house.six) + pooled_in(house.eight),
         retained: counters.gained.abs_diff(counters.lost),

@@ -1,24 +1,21 @@
 -- What the decoder answers: where it stops, what a whole command is, and that it is the command that its bytes stand for. What is shown of each row of
 -- the table, in one list of records (`rows_hold`), holds of the row that a byte has.
-use Prim.Native.Nat.{ℕ, suc, ◌+◌, ◌-◌, ◌≤◌, ◌<◌}
-use native.Mathlib.Nat.{lt_irrefl}
-use native.Mathlib.Numerals.{add-one}
+use Prim.Native.Nat.{ℕ, ◌+◌, ◌≤◌, ◌<◌}
 use native.Mathlib.Omega.{arith}
 use mathlib.Core.Path.{◌≡◌, refl, sym, ap, subst, ◌∙◌}
 use mathlib.Core.Bool.{Bool, true, false, cond, ◌||◌}
 use mathlib.Core.List.{List, [], ◌∷◌}
-use Rattle.std.specs.Prelude.{Option, Some, None, Ok, Err}
+use Rattle.std.specs.Prelude.{Some, None, Ok, Err}
 use lib.Dec.{ltb, leb, eqb}
-use lib.ListN.{length, get_or, take, drop, length-drop, length-take, drop_of_length-le}
-use lib.Seq.{drop-cons, drop-drop}
-use borrow.Author.Tests.{leb-true, ltb-false, lt-ltb, le-ltb, eqb-true}
+use lib.ListN.{length, get_or, take}
+use borrow.Author.Tests.{ltb-false, lt-ltb, le-ltb, eqb-true}
 use Rattle.numbers.specs.Bytes.{number_of}
-use Rattle.numbers.proofs.ByteLaws.{part_of_first, byte_of_part, two_bytes_below}
+use Rattle.numbers.proofs.ByteLaws.{two_bytes_below}
 use Rattle.house.specs.Commands.{open'}
 use Rattle.house.proofs.Ledger.{All}
 use Rattle.house.proofs.EachCommand.{ShortDay}
 use Rattle.commands.specs.declared.command.Command.{Command}
-use Rattle.roll.specs.Decode.{marks_in, CommandRow, command_rows, CommandByte, unknown, known, row_among, command_row, sale_in, command_of, byte_of}
+use Rattle.roll.specs.Decode.{CommandRow, command_rows, CommandByte, unknown, known, row_among, command_row, command_of, byte_of}
 use Rattle.roll.specs.Orders.{operands_by, operand_length, operand_bytes, command_by, order_by, CommandSize, decoded_at}
 use Rattle.roll.specs.declared.decode.Order.{Order}
 use Rattle.roll.specs.declared.stop.Stop.TheVariants.{UnknownByte, ShortCommand}
@@ -123,57 +120,21 @@ byte_back byte row bytes e =
 pub short_day : (byte : ℕ) (row : CommandRow) (rest : List ℕ) → command_row byte ≡ known row → Small rest → ShortDay (command_of row (take row.operands rest))
 short_day byte row rest e small = (row_found byte row e).1.short rest small
 
--- ---- a sale's operands
+-- ---- what bytes begin with
 
--- A sale's operands up to the marks, from where they start in a list; of the bytes that belong to the sale the first eight are read.
-pub sale_in_lem :
-    (n : ℕ) → 8 ≤ n → (feature : Option ℕ) (l : List ℕ) (at stake : ℕ)
-    → stake ≡ number_of (take 4 (drop (at + 2) l))
-    → record { kind = get_or l at 0; games = get_or l (at + 1) 0; stake = stake; groups = get_or l (at + 6) 0; types = get_or l (at + 7) 0; feature = feature }
-    ≡ sale_in feature (take n (drop at l))
-sale_in_lem n room feature l at stake same =
-    let here : at ≡ at + 0 = omega arith in
-    let kind = ap (λ k. get_or l k 0) here ∙ sym (byte_of_part n l at 0 (omega arith)) in
-    let four = same ∙ ap number_of (sym (part_of_first 2 4 n (drop at l) (omega arith) ∙ ap (take 4) (drop-drop 2 at l))) in
-    λ i.
-    record {
-      kind = kind i;
-      games = sym (byte_of_part n l at 1 (omega arith)) i;
-      stake = four i;
-      groups = sym (byte_of_part n l at 6 (omega arith)) i;
-      types = sym (byte_of_part n l at 7 (omega arith)) i;
-      feature = feature;
-    }
-
--- ---- what stands at a place
-
-module _ (l : List ℕ) (at : ℕ) (within : at < length l) where
-  abbrev byte : ℕ
-  byte = get_or l at 0
-
-  left_over : length (drop (suc at) l) ≡ length l - (at + 1)
-  left_over = length-drop (suc at) l ∙ ap (λ n. length l - n) (sym (add-one at))
-
-  pub unknown_there : command_row byte ≡ unknown → decoded_at (drop at l) ≡ Err UnknownByte
+module _ (byte : ℕ) (operands : List ℕ) where
+  pub unknown_here : command_row byte ≡ unknown → decoded_at (byte ∷ operands) ≡ Err UnknownByte
   unfolding decoded_at
-  unknown_there none =
-      rw (drop-cons l at 0 within, none, le-ltb (length (drop (suc at) l)) 0 (omega arith))
+  unknown_here none = rw (none, le-ltb (length operands) 0 (omega arith))
 
-  pub short_there : length l - (at + 1) < operand_bytes byte → decoded_at (drop at l) ≡ Err ShortCommand
+  pub short_here : length operands < operand_bytes byte → decoded_at (byte ∷ operands) ≡ Err ShortCommand
   unfolding decoded_at
-  short_there short =
-      rw (drop-cons l at 0 within, lt-ltb (length (drop (suc at) l)) (operand_bytes byte) (omega (arith, left_over)))
+  short_here short = rw (lt-ltb (length operands) (operand_bytes byte) short)
 
-  pub whole_there :
-      operand_bytes byte ≤ length l - (at + 1)
-      → decoded_at (drop at l) ≡ order_by (command_row byte) (drop (at + 1) l) (operand_bytes byte + 1)
+  pub whole_here :
+      operand_bytes byte ≤ length operands → decoded_at (byte ∷ operands) ≡ order_by (command_row byte) operands (operand_bytes byte + 1)
   unfolding decoded_at
-  whole_there enough =
-      rw (
-        drop-cons l at 0 within,
-        le-ltb (length (drop (suc at) l)) (operand_bytes byte) (omega (arith, left_over)),
-        add-one at,
-      )
+  whole_here enough = rw (le-ltb (length operands) (operand_bytes byte) enough)
 
 -- a whole command that stands at the start of a part of a roll
 pub record Stands (roll : List ℕ) (order : Command) (size : ℕ) : Type 0 where
@@ -215,17 +176,3 @@ stands (byte ∷ rest) order e = go (command_row byte) (ltb (length rest) (opera
 -- it has marks, or ends before them
 pub size_apart : {roll : List ℕ} {order : Command} {size : ℕ} → Stands roll order size → CommandSize size
 size_apart s = subst CommandSize (sym s.long) (row_found s.byte s.row s.has).1.apart
-
--- a command that is too short for marks has at most eight operand bytes, so that no byte of them is lent: none from a place to itself is
-pub no_marks :
-    (l : List ℕ) (at size : ℕ) → CommandSize size → size < 89 → take (at - at) (drop at l) ≡ marks_in (take (size - 1) (drop (at + 1) l))
-no_marks l at size sized short =
-    let none : at - at ≡ 0 = omega arith in
-    ap (λ n. take n (drop at l)) none ∙ ap (take 80) (sym (drop_of_length-le (take (size - 1) (drop (at + 1) l)) few))
-  where
-    by : (b : Bool) → leb size 9 ≡ b → (b || leb 89 size) ≡ true → size ≤ 9
-    by true e apart = leb-true size 9 e
-    by false e apart = absurd (lt_irrefl size (omega (arith, short, leb-true 89 size apart)))
-
-    few : length (take (size - 1) (drop (at + 1) l)) ≤ 8
-    few = omega (arith, length-take (size - 1) (drop (at + 1) l), by (leb size 9) refl sized.apart)

@@ -9,7 +9,7 @@ use mathlib.Core.List.{List, [], ◌∷◌, ◌++◌, append_assoc, append-nil}
 use Rattle.std.specs.Prelude.{Result, Ok, Err}
 use lib.Dec.{ltb}
 use lib.ListN.{length, get_or, take, drop, take-append-drop, length-append, length-take, length-drop, drop_of_length-le}
-use lib.Seq.{length-take-le, take_all, drop-drop, drop_at, take_at, get_or-drop}
+use lib.Seq.{length-take-le, take_all, drop-drop, drop_at, take_at}
 use borrow.Author.Tests.{lt-ltb, le-ltb}
 use borrow.Rule.Slice.PartMut.{put_mid}
 use Rattle.house.specs.Model.{Model}
@@ -21,7 +21,7 @@ use Rattle.house.specs.View.{view}
 use Rattle.commands.specs.declared.command.Command.{Command}
 use Rattle.numbers.specs.Bytes.{bytes_of}
 use Rattle.roll.specs.Decode.{marks_in, CommandRow, CommandByte, unknown, known, command_row, command_of, record_of}
-use Rattle.roll.specs.Reading.{Reading, stopped, answered, turn_at, read_turns, read_roll, AllRefused}
+use Rattle.roll.specs.Reading.{Reading, stopped, answered, turn_at, read_turns, AllRefused}
 use Rattle.roll.specs.Stop.{stop_number}
 use Rattle.roll.specs.Orders.{operands_by, order_by, decoded_at, reading_of}
 use Rattle.roll.specs.declared.stop.Stop.{Stop}
@@ -169,23 +169,6 @@ pub record Ahead (quiet : Type 0) (whole : Reading) (m : Model) (roll book : Lis
   pub joins : Joins whole (read_turns turns m (drop read roll) (drop (answers * 14) book)) (take (answers * 14) book) read answers
   pub refused : quiet → AllRefused m (read_turns turns m (drop read roll) (drop (answers * 14) book)).commands
 
-pub ahead_starts :
-    (m : Model) (roll book : List ℕ) → Ahead (AllRefused m (read_roll m roll book).commands) (read_roll m roll book) m roll book 0 0
-ahead_starts m roll book =
-    record {
-      turns = length roll + 1;
-      enough = omega arith;
-      within = omega arith;
-      room = omega arith;
-      joins = record { house = refl; stop = refl; bytes = omega arith; count = omega arith; text = refl };
-      refused = λ none. none;
-    }
-
-first_byte : (l : List ℕ) (at : ℕ) → get_or (drop at l) 0 0 ≡ get_or l at 0
-first_byte l at =
-    let here : at + 0 ≡ at = omega arith in
-    get_or-drop at l 0 0 ∙ ap (λ n. get_or l n 0) here
-
 -- an answered command is passed, with its record in the book
 next_ahead :
     (quiet : Type 0) (whole : Reading) (m : Model) (roll book : List ℕ) (read answers : ℕ) (c : Rattle.house.specs.Commands.Command) (size : ℕ) (book' : List ℕ) (turns : ℕ)
@@ -193,18 +176,18 @@ next_ahead :
     → 0 < size
     → length roll < read + suc turns
     → read + size ≤ length roll
-    → Joins whole (answered_by turns m (drop (answers * 14) book) size c (get_or roll read 0) (drop size (drop read roll))) (take (answers * 14) book) read answers
+    → Joins whole (answered_by turns m (drop (answers * 14) book) size c (get_or (drop read roll) 0 0) (drop size (drop read roll))) (take (answers * 14) book) read answers
     → (quiet → AllRefused m (c ∷ (read_turns turns (step m c).house (drop size (drop read roll)) (drop 14 (drop (answers * 14) book))).commands))
-    → book' ≡ take (answers * 14) book ++ (record_of (get_or roll read 0) (step m c).answer ++ drop 14 (drop (answers * 14) book))
+    → book' ≡ take (answers * 14) book ++ (record_of (get_or (drop read roll) 0 0) (step m c).answer ++ drop 14 (drop (answers * 14) book))
     → Ahead quiet whole (step m c).house roll book' (read + size) (answers + 1)
 unfolding AllRefused
 next_ahead quiet whole m roll book read answers c size book' turns room some enough within j none written =
     let front = take (answers * 14) book in
-    let entry = record_of (get_or roll read 0) (step m c).answer in
+    let entry = record_of (get_or (drop read roll) 0 0) (step m c).answer in
     let back = drop 14 (drop (answers * 14) book) in
     let left = read_turns turns (step m c).house (drop size (drop read roll)) back in
     let front_long = length-take-le (answers * 14) book (omega arith) in
-    let long : length front + length entry ≡ (answers + 1) * 14 = omega (arith, front_long, record_long (get_or roll read 0) (step m c).answer) in
+    let long : length front + length entry ≡ (answers + 1) * 14 = omega (arith, front_long, record_long (get_or (drop read roll) 0 0) (step m c).answer) in
     let through = ap (take ((answers + 1) * 14)) written ∙ through_entry front entry back ((answers + 1) * 14) long in
     let past = ap (drop ((answers + 1) * 14)) written ∙ past_entry front entry back ((answers + 1) * 14) long in
     let same : left ≡ read_turns turns (step m c).house (drop (read + size) roll) (drop ((answers + 1) * 14) book') =
@@ -287,23 +270,20 @@ module _ (quiet : Type 0) (whole : Reading) (m : Model) (roll book : List ℕ) (
     command_within = omega (arith, s.long, s.enough, ap length s.begins, length-drop read roll, a.within)
 
     -- one more answer, its record written after the others
-    module _ (marks : List ℕ) (room : done + 14 ≤ length book) (same : marks ≡ marks_in (take (size - 1) (drop (read + 1) roll))) where
-      lent : marks ≡ marks_in (take s.row.operands s.rest)
-      lent =
-          let operands : size - 1 ≡ s.row.operands = omega (arith, s.long) in
-          same ∙ ap₂ (λ n l. marks_in (take n l)) operands (sym (drop-drop 1 read roll) ∙ ap (drop 1) s.begins)
+    module _ (marks : List ℕ) (room : done + 14 ≤ length book) (same : marks ≡ marks_in (drop 1 (take size (drop read roll)))) where
+      operands : drop 1 (take size (drop read roll)) ≡ take s.row.operands s.rest
+      operands = rw (s.begins, s.long, add-one s.row.operands)
 
       turn_here : (turns : ℕ) → read_turns (suc turns) m (drop read roll) (drop done book)
-          ≡ answered_by turns m (drop done book) size (meant order marks) (get_or roll read 0) (drop size (drop read roll))
+          ≡ answered_by turns m (drop done book) size (meant order marks) (get_or (drop read roll) 0 0) (drop size (drop read roll))
       turn_here turns =
-          turn_answers turns m (drop read roll) (drop done book) order size s marks (omega (arith, length-drop done book)) lent
-          ∙ ap (λ b. answered_by turns m (drop done book) size (meant order marks) b (drop size (drop read roll))) (first_byte roll read)
+          turn_answers turns m (drop read roll) (drop done book) order size s marks (omega (arith, length-drop done book)) (same ∙ ap marks_in operands)
 
       pub ahead_more :
           (book' : List ℕ)
           → book'
           ≡ take done book
-          ++ (record_of (get_or roll read 0) (step m (meant order marks)).answer ++ drop 14 (drop done book))
+          ++ (record_of (get_or (drop read roll) 0 0) (step m (meant order marks)).answer ++ drop 14 (drop done book))
           → Ahead quiet whole (step m (meant order marks)).house roll book' (read + size) (answers + 1)
       ahead_more book' written = go a.turns a.enough a.joins a.refused
         where

@@ -32,24 +32,23 @@ record_passed byte a rest = refl
 
 -- the two numbers that are stored in their places, and then the first two bytes
 stored :
-    (l : List ℕ) (byte code number cents : ℕ)
+    (l : List ℕ) (byte : ℕ) (a : Answer)
     → 14 ≤ length l
-    → set (set (put 2 4 number (put 6 8 cents l)) 0 byte) 1 code
-    ≡ record_of byte (record { code = code; number = number; cents = cents }) ++ drop 14 l
+    → set (set (put 2 4 a.number (put 6 8 a.cents l)) 0 byte) 1 a.code ≡ record_of byte a ++ drop 14 l
 unfolding record_of bytes_of
-stored [] byte code number cents within = absurd (omega arith)
-stored (a ∷ []) byte code number cents within = absurd (omega arith)
-stored (a ∷ b ∷ []) byte code number cents within = absurd (omega arith)
-stored (a ∷ b ∷ c ∷ []) byte code number cents within = absurd (omega arith)
-stored (a ∷ b ∷ c ∷ d ∷ []) byte code number cents within = absurd (omega arith)
-stored (a ∷ b ∷ c ∷ d ∷ e ∷ []) byte code number cents within = absurd (omega arith)
-stored (a ∷ b ∷ c ∷ d ∷ e ∷ f ∷ l) byte code number cents within = refl
+stored [] byte x within = absurd (omega arith)
+stored (a ∷ []) byte x within = absurd (omega arith)
+stored (a ∷ b ∷ []) byte x within = absurd (omega arith)
+stored (a ∷ b ∷ c ∷ []) byte x within = absurd (omega arith)
+stored (a ∷ b ∷ c ∷ d ∷ []) byte x within = absurd (omega arith)
+stored (a ∷ b ∷ c ∷ d ∷ e ∷ []) byte x within = absurd (omega arith)
+stored (a ∷ b ∷ c ∷ d ∷ e ∷ f ∷ l) byte x within = refl
 
 pub record_written :
-    (l : List ℕ) (byte code number cents : ℕ) (l₁ l₂ : List ℕ)
+    (l : List ℕ) (byte : ℕ) (a : Answer) (l₁ l₂ : List ℕ)
     → 14 ≤ length l
-    → l₁ ≡ put 6 8 cents l
-    → l₂ ≡ put 2 4 number l₁
-    → set (set l₂ 0 byte) 1 code ≡ record_of byte (record { code = code; number = number; cents = cents }) ++ drop 14 l
-record_written l byte code number cents l₁ l₂ within first second =
-    ap (λ x. set (set x 0 byte) 1 code) (second ∙ ap (put 2 4 number) first) ∙ stored l byte code number cents within
+    → l₁ ≡ put 6 8 a.cents l
+    → l₂ ≡ put 2 4 a.number l₁
+    → set (set l₂ 0 byte) 1 a.code ≡ record_of byte a ++ drop 14 l
+record_written l byte a l₁ l₂ within first second =
+    ap (λ x. set (set x 0 byte) 1 a.code) (second ∙ ap (put 2 4 a.number) first) ∙ stored l byte a within

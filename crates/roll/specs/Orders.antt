@@ -6,7 +6,6 @@ use Rattle.house.specs.Commands.{step}
 use Rattle.house.specs.View.{view}
 use Rattle.roll.specs.Decode.{CommandByte, unknown, known, command_row, record_of}
 use Rattle.roll.specs.Reading.{Reading, read_roll, AllRefused}
-use Rattle.roll.specs.Stop.{stop_number}
 use Rattle.roll.specs.declared.stop.Stop.{Stop}
 use Rattle.roll.specs.declared.stop.Stop.TheVariants.{RollEnded, UnknownByte, ShortCommand}
 use Rattle.roll.specs.declared.decode.Order.{Order}
@@ -45,11 +44,6 @@ unfoldable pub decoded_at : List ℕ → Result Order Stop
 decoded_at [] = Err RollEnded
 decoded_at (byte ∷ rest) =
     cond (ltb (length rest) (operand_bytes byte)) (Err ShortCommand) (order_by (command_row byte) rest (operand_bytes byte + 1))
-
--- the number that hosts read of it: 0 where it is a whole command
-abbrev pub stop_of : Result Order Stop → ℕ
-stop_of (Ok order) = 0
-stop_of (Err stop) = stop_number stop
 
 -- a command answered into a part of a book: the house after it, its record behind which the part is as it was, and where the command is refused struct,
 -- words and marks are those before

@@ -1,12 +1,12 @@
 // The reader: runs the commands of a lent roll and writes their answers into a lent book.
-ghost use Rattle.std.specs.Prelude.{◌≡◌, ◌+◌, ◌-◌, ◌≤◌, length, take, drop};
+ghost use Rattle.std.specs.Prelude.{◌≡◌, ◌≤◌, length, drop};
 ghost use Rattle.house.specs.Balance.{Reached};
 ghost use Rattle.house.specs.View.{view};
 ghost use Rattle.roll.specs.Decode.{marks_in};
 ghost use Rattle.commands.specs.Meant.{meant};
-ghost use Rattle.roll.specs.Orders.{CommandSize, stop_of, Answered, Reported};
+ghost use Rattle.roll.specs.Orders.{CommandSize, Answered, Reported};
 
-use crate::decode::{Order, decode};
+use crate::decode::decode;
 use crate::record::write_record;
 use crate::stop::Stop;
 use commands::command::{Command, carry_out};
@@ -24,26 +24,13 @@ pub struct Report {
     pub answers: usize,
 }
 
-// The number of a stop; that of a whole command is 0.
-fn stop_code(decoded: Result<Order, Stop>) -> u8
-    ensures { result ≡ stop_of decoded }
+// What is lent with a command: the marks of a sale, from its own bytes. Another command is too short for any, so that the bytes alone say it, as the contract
+// does. Nothing is the first 0 of them and no `&[]`: with a constant's address to choose from, a sale took a fifth longer.
+fn marks_of(bytes: &[u8]) -> &[u8]
+    requires { CommandSize (length bytes.now) }
+    ensures { result.now ≡ marks_in (drop 1 bytes.now) }
 {
-    match decoded {
-        Ok(_) => 0,
-        Err(stop) => u8::from(stop),
-    }
-}
-
-// What is lent with a command of so many bytes that starts at a place: the marks of a sale, from the roll itself. Another command is too short for any.
-#[tactic(auto, using(crate::proofs::DecodeLaws::no_marks))]
-fn marks_of(roll: &[u8], at: usize, size: usize) -> &[u8]
-    requires { CommandSize size × (at + size ≤ length roll.now) }
-    ensures { result.now ≡ marks_in (take (size - 1) (drop (at + 1) roll.now)) }
-{
-    if size < 89 {
-        return &roll[at..at];
-    }
-    &roll[at + 9..at + 89]
+    bytes.get(9..89).unwrap_or(&bytes[..0])
 }
 
 impl Report {
@@ -56,7 +43,8 @@ impl Report {
 }
 
 // Carries out a command and writes its answer at the start of a part of the book. A function of its own, so that the loop of the reader has one way round:
-// with two, the compiler works out for each accepted command what only a run of refused ones would spare.
+// with two, the compiler works out for each accepted command what only a run of refused ones would spare. A refusal's branch writes its code and moves on:
+// the form that docs/DECISIONS.md names.
 fn answer_order(
     house: &mut House,
     rows: &mut [u64; 3200],
@@ -71,14 +59,22 @@ fn answer_order(
 {
     let ended = carry_out(house, rows, marks, command, from);
     let Ok(receipt) = ended else {
-        let refused = Answer::from(ended);
-        write_record(book, byte, refused.code, 0, 0);
+        write_record(book, byte, Answer::from(ended));
         return;
     };
-    write_record(book, byte, 0, receipt.number, receipt.cents);
+    write_record(
+        book,
+        byte,
+        Answer {
+            code: 0,
+            number: receipt.number,
+            cents: receipt.cents,
+        },
+    );
 }
 
-// Reads a roll until it ends, a byte is unknown, too few bytes are left or the book has no room for an answer.
+// Reads a roll until it ends, a byte is unknown, too few bytes are left or the book has no room for an answer. It counts the bytes read and the answers
+// written, as the report has them for C, and by them finds its places in roll and book.
 pub fn read_roll(
     house: House,
     rows: &mut [u64; 3200],
@@ -92,35 +88,33 @@ pub fn read_roll(
     let mut here = house;
     let mut read = 0;
     let mut answers = 0;
-    loop {
-        let decoded = decode(roll, read);
+    let stop = loop {
+        let rest = &roll[read..];
+        let decoded = decode(rest);
         let Ok(order) = decoded else {
-            return Report {
-                house: here,
-                stop: stop_code(decoded),
-                read,
-                answers,
-            };
+            break decoded.unwrap_err();
         };
         let written = answers * 14;
         if book.len() - written < 14 {
-            return Report {
-                house: here,
-                stop: u8::from(Stop::BookFull),
-                read,
-                answers,
-            };
+            break Stop::BookFull;
         }
+        let bytes = &rest[..order.size];
         answer_order(
             &mut here,
             rows,
             marks,
             order.command,
-            marks_of(roll, read, order.size),
-            roll[read],
+            marks_of(bytes),
+            rest[0],
             &mut book[written..],
         );
         read += order.size;
         answers += 1;
+    };
+    Report {
+        house: here,
+        stop: u8::from(stop),
+        read,
+        answers,
     }
 }

@@ -9,14 +9,17 @@ use lib.Dec.{leb, eqb}
 use lib.ListN.{length, take}
 use borrow.Author.Tests.{eq-eqb, ne_eqb, leb-true, leb-false, not-true}
 use Rattle.std.specs.List.{list_all}
-use Rattle.std.specs.Prelude.{Option, None, Some}
+use Rattle.std.specs.Prelude.{Option, None, Some, MatchOption}
 use Rattle.std.specs.Option.{unwrap_or}
 use Rattle.refusals.specs.Refusal.{refusal_number}
 use Rattle.refusals.specs.declared.refusal.Refusal.{Refusal}
 use Rattle.refusals.proofs.Refusals.{refusal_some}
 use Rattle.sale.specs.Lists.{every}
-use Rattle.sale.specs.Ways.{sizes}
+use Rattle.sale.specs.Kinds.{is_jackpot, within, jackpot_by, number_of, jackpot_number, jackpot_named}
+use Rattle.sale.specs.Ways.{sizes, way_sizes}
 use Rattle.sale.specs.Checks.{first_met, marks_fit, Operands, feature_stake, mark_rows, way_rows, feature_row, stake_row, feature_stake_row, charge_row, price_rows, operand_rows, operand_code}
+use Rattle.sale.specs.declared.terms.JackpotKind.{JackpotKind}
+use Rattle.sale.specs.declared.terms.Terms.{Terms}
 use Rattle.sale.proofs.KeepLaws.{and_right}
 
 -- std's test of every element is ours
@@ -115,6 +118,26 @@ module _ (rows more : List (Bool × ℕ)) (n : nonzero rows ≡ true) where
 pub staked_or_none : (feature : Option ℕ) → unwrap_or feature 0 ≡ feature_stake feature
 staked_or_none None = refl
 staked_or_none (Some stake) = refl
+
+-- ---- the jackpot
+
+-- the number of a jackpot that there may be, as the code reads it
+pub jackpot_word : (found : Option JackpotKind) (word : ℕ) → MatchOption found (word ≡ 0) (λ jackpot. word ≡ number_of jackpot) → word ≡ jackpot_number found
+jackpot_word None word told = told
+jackpot_word (Some jackpot) word told = told
+
+-- a jackpot named by 6, 8 or 0 has that number again
+named_back : (plays six eight : Bool) → jackpot_number (jackpot_named (cond plays (cond six 6 (cond eight 8 0)) 0)) ≡ cond plays (cond six 6 (cond eight 8 0)) 0
+unfolding jackpot_named
+named_back false six eight = refl
+named_back true true eight = refl
+named_back true false true = refl
+named_back true false false = refl
+
+pub jackpot_back : (t : Terms) (counts : List ℕ) → jackpot_number (jackpot_named (jackpot_by t counts)) ≡ jackpot_by t counts
+unfolding jackpot_by
+jackpot_back t counts =
+    named_back (is_jackpot t.kind) (within 6 6 (way_sizes t.groups t.types counts)) (within 8 8 (way_sizes t.groups t.types counts))
 
 -- ---- the stages of a sale's table: each decides once those before it are passed
 

@@ -1,8 +1,8 @@
 pub mod KeepLaws
 pub mod WayLaws
 pub mod WalkLaws
+pub mod NotedLaws
 pub mod OneWay
 pub mod SurveyLaws
 pub mod MarkLaws
-pub mod PriceLaws
 pub mod CheckLaws

@@ -1,51 +1,49 @@
--- Laws on the one look that a sale takes at its ways: the ways that leave a group are taken in first and then those that take it, and a test of
--- every way's size is one of the smallest and of the largest.
-use Prim.Native.Nat.{ℕ, ◌+◌, ◌≤◌, min, max}
+-- Laws on the one look that a sale takes at its ways: ways noted one after the other make the survey of them, and a test of every way's size is one of
+-- the smallest and of the largest.
+use Prim.Native.Nat.{ℕ, ◌+◌, ◌≤◌, ◌<◌, min, max}
 use mathlib.Core.Path.{◌≡◌, refl, sym, ap, ap₂, ◌∙◌}
 use mathlib.Core.Bool.{Bool, true, false, ◌&&◌}
-use mathlib.Core.List.{List, [], ◌∷◌, ◌++◌, map}
+use mathlib.Core.List.{List, [], ◌∷◌, ◌++◌}
 use native.Mathlib.Nat.{add-zero, zero-add}
 use native.Mathlib.Omega.{arith}
 use lib.Dec.{leb}
-use lib.ListN.{length, length-append, length-map}
+use lib.ListN.{length, get_or, take, set, length-map}
+use lib.Seq.{take_all}
+use Rattle.std.proofs.lemmas.List.{take_more, take_more_set}
 use borrow.Author.Tests.{le-leb, lt-leb, leb-true, leb-false}
 use Rattle.sale.specs.Lists.{every}
 use Rattle.sale.specs.Kinds.{within}
 use Rattle.sale.specs.Ways.{ways, mask_sum, way_sizes}
-use Rattle.sale.specs.Passes.{ways_from, sizes_from, noted, survey_from, survey_of, Unfilled}
+use Rattle.sale.specs.Noting.{AllNoted}
+use Rattle.sale.specs.Passes.{noted, survey_from, survey_of, Unfilled, Notes}
 use Rattle.sale.specs.declared.survey.Survey.{Survey}
 use Rattle.sale.proofs.WayLaws.{ways_few}
-use Rattle.sale.proofs.WalkLaws.{ways_from_ways}
 
--- ---- one list of ways after another
+-- ---- the table of the sizes, filled place by place
 
-survey_append : (s : Survey) (xs ys : List ℕ) → survey_from s (xs ++ ys) ≡ survey_from (survey_from s xs) ys
-unfolding survey_from
-survey_append s [] ys = refl
-survey_append s (x ∷ xs) ys = survey_append (noted s x) xs ys
+pub sizes_more : (sizes items : List ℕ) (k : ℕ) → length sizes ≡ 8 → length items ≡ 8 → k < 8 → take k items ≡ take k sizes
+    → take (k + 1) (set items k (get_or sizes k 0)) ≡ take (k + 1) sizes
+sizes_more sizes items k all long inside before =
+    take_more_set items k (get_or sizes k 0) (omega arith)
+    ∙ ap (λ (l : List ℕ). l ++ (get_or sizes k 0 ∷ [])) before
+    ∙ sym (take_more sizes k 0 (omega arith))
 
-pub survey_both : (s : Survey) (xs ys : List ℕ) {middle after : Survey} → middle ≡ survey_from s xs → after ≡ survey_from middle ys
-    → after ≡ survey_from s (xs ++ ys)
-survey_both s xs ys d e = e ∙ ap (λ m. survey_from m ys) d ∙ sym (survey_append s xs ys)
+pub sizes_all : (sizes items : List ℕ) (k : ℕ) → length sizes ≡ 8 → length items ≡ 8 → 8 ≤ k → take k items ≡ take k sizes → items ≡ sizes
+sizes_all sizes items k all long past same = sym (take_all k items (omega arith)) ∙ same ∙ take_all k sizes (omega arith)
 
-pub survey_count : (s : Survey) (xs : List ℕ) → (survey_from s xs).count ≡ s.count + length xs
+-- ---- the ways of a walk, noted one after the other
+
+pub survey_noted : (xs : List ℕ) (s t : Survey) → AllNoted Notes xs s t → t ≡ survey_from s xs
+unfolding AllNoted survey_from
+survey_noted [] s t e = e
+survey_noted (x ∷ xs) s t (next, e, others) = survey_noted xs next t others ∙ ap (λ r. survey_from r xs) e
+
+survey_count : (s : Survey) (xs : List ℕ) → (survey_from s xs).count ≡ s.count + length xs
 unfolding survey_from
 survey_count s [] = sym (add-zero s.count)
 survey_count s (x ∷ xs) = omega (arith, survey_count (noted s x) xs)
 
-module _ (xs ys : List ℕ) {s : Survey} (u : Unfilled (xs ++ ys) s) where
-  pub unfilled_first : Unfilled xs s
-  unfilled_first = record { room = omega (arith, u.room, length-append xs ys) }
-
-  pub unfilled_second : {middle : Survey} → middle ≡ survey_from s xs → Unfilled ys middle
-  unfilled_second e =
-      record { room = omega (arith, u.room, length-append xs ys, ap (λ s. s.count) e, survey_count s xs) }
-
 -- ---- over all groups
-
-pub sizes_from_ways : (g types : ℕ) (sizes : List ℕ) → sizes_from types sizes g 0 ≡ way_sizes g types sizes
-unfolding way_sizes
-sizes_from_ways g types sizes = ap (map (λ m. mask_sum m sizes)) (ways_from_ways g types)
 
 pub surveyed_count : (g types : ℕ) (sizes : List ℕ) → (survey_of (way_sizes g types sizes)).count ≡ length (ways g types)
 unfolding way_sizes
@@ -54,17 +52,8 @@ surveyed_count g types sizes =
     survey_count (record { count = 0; least = 255; most = 0 }) xs ∙ zero-add (length xs) ∙ length-map (ways g types) (λ m. mask_sum m sizes)
 
 -- the survey that the walk starts with has room for them
-pub start_unfilled : {g : ℕ} → g ≤ 8 → (types : ℕ) (sizes : List ℕ) → Unfilled (sizes_from types sizes g 0) (record { count = 0; least = 255; most = 0 })
-start_unfilled {g} few types sizes =
-    record {
-      room =
-          omega (
-            arith,
-            length-map (ways_from types g 0) (λ m. mask_sum m sizes),
-            ap length (ways_from_ways g types),
-            ways_few types few,
-          );
-    }
+pub start_unfilled : {g : ℕ} → g ≤ 8 → (types : ℕ) → Unfilled (record { count = 0; least = 255; most = 0 }) (length (ways g types))
+start_unfilled few types = record { room = omega (arith, ways_few types few) }
 
 -- ---- tests of every size
 

@@ -10,7 +10,8 @@ use lib.Count.{ones, ones_in}
 use lib.Pow.{pow_pos, pow_mono, suc_ones}
 use Rattle.sale.specs.Lists.{sum, below, keep}
 use Rattle.sale.specs.Ways.{nominated, ways, mask_sum}
-use Rattle.sale.specs.Bounds.{Place, AddedUp}
+use Rattle.sale.specs.Bounds.{Place}
+use Rattle.sale.specs.Noting.{Figures, Carried}
 
 -- ---- lengths as sums, and choices
 
@@ -119,12 +120,12 @@ mask_sum_without m (suc n) (x ∷ xs) = mask_sum_without m n xs
 pub start_place : {g : ℕ} → g ≤ 8 → Place g 0
 start_place {g} h = record { groups = h; chosen = pow_pos (8 - g) }
 
-pub start_carried : (g : ℕ) (xs : List ℕ) → AddedUp g 0 0 xs
-start_carried g xs = record { added = sym (mask_sum_none (drop g xs)); small = omega arith }
+pub start_carried : (g : ℕ) (table : List ℕ) → Carried g 0 0 table
+start_carried g table = record { added = sym (mask_sum_none (drop (suc g) table)); small = omega arith }
 
 -- where no group is left, what is carried is all that the mask takes
-pub carried_all : {left m total : ℕ} {xs : List ℕ} → left ≡ 0 → AddedUp left m total xs → total ≡ mask_sum m xs
-carried_all {m = m} {xs = xs} none c = c.added ∙ ap (λ k. mask_sum m (drop k xs)) none
+pub carried_all : {left m figure : ℕ} {table : List ℕ} → left ≡ 0 → Carried left m figure table → figure ≡ mask_sum m (drop 1 table)
+carried_all {m = m} {table = table} none c = c.added ∙ ap (λ k. mask_sum m (drop (suc k) table)) none
 
 pub mask_lt : {left m : ℕ} → Place left m → m < 2 ^ 8
 mask_lt {left} p = lt_of_lt_of_le p.chosen (pow_mono {j = 8} (sub-le 8 left))
@@ -147,20 +148,19 @@ module _ {left : ℕ} (some : left ≡ 0 → ⊥) where
   pub place_without : {m : ℕ} → Place left m → Place (left - 1) (m * 2)
   place_without p = record { groups = omega arith; chosen = omega (arith, doubled p.groups) }
 
-  module _ {m total : ℕ} {xs : List ℕ} where
-    pub carried_with : left ≤ 8 → AddedUp left m total xs → get_or xs (left - 1) 0 ≤ 255
-        → AddedUp (left - 1) (m * 2 + 1) (total + get_or xs (left - 1) 0) xs
-    carried_with h c byte =
+  module _ {m figure : ℕ} {table : List ℕ} where
+    pub carried_with : left ≤ 8 → Figures table → Carried left m figure table → Carried (left - 1) (m * 2 + 1) (figure + get_or table left 0) table
+    carried_with few f c =
         record {
           added =
-              ap (λ k. k + get_or xs (left - 1) 0) (c.added ∙ ap (λ k. mask_sum m (drop k xs)) (sym next))
-              ∙ sym (mask_sum_with m (left - 1) xs);
-          small = omega (arith, pos_of_ne-zero some);
+              ap (λ k. k + get_or table left 0) c.added ∙ sym (mask_sum_with m left table)
+              ∙ ap (λ k. mask_sum (m * 2 + 1) (drop k table)) (sym next);
+          small = omega (arith, c.small, f.small left, pos_of_ne-zero some);
         }
 
-    pub carried_without : AddedUp left m total xs → AddedUp (left - 1) (m * 2) total xs
-    carried_without c =
+    pub carried_without : left ≤ 8 → Carried left m figure table → Carried (left - 1) (m * 2) figure table
+    carried_without few c =
         record {
-          added = c.added ∙ ap (λ k. mask_sum m (drop k xs)) (sym next) ∙ sym (mask_sum_without m (left - 1) xs);
-          small = omega arith;
+          added = c.added ∙ sym (mask_sum_without m left table) ∙ ap (λ k. mask_sum (m * 2) (drop k table)) (sym next);
+          small = omega (arith, c.small, pos_of_ne-zero some);
         }

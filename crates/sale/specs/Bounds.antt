@@ -1,7 +1,6 @@
 -- The bounds that some parts of a sale, and of the walk over ways, ask of their callers, so that no sum or product passes 64 bits. Every sale gives
 -- them (`Playable`).
-use Rattle.std.specs.Prelude.{ℕ, ◌*◌, ◌-◌, ◌≤◌, ◌<◌, ◌^◌, ◌≡◌, List, length, drop, get_or}
-use Rattle.sale.specs.Ways.{mask_sum}
+use Rattle.std.specs.Prelude.{ℕ, ◌-◌, ◌≤◌, ◌<◌, ◌^◌, ◌≡◌, List, length, get_or}
 use Rattle.sale.specs.Price.{charge_limit}
 use Rattle.sale.specs.Checks.{Operands, price_of, charge_of}
 use Rattle.sale.specs.declared.terms.Terms.{Terms}
@@ -15,11 +14,6 @@ pub record Sound (t : Terms) : Type 0 where
 pub record Place (left mask : ℕ) : Type 0 where
   pub groups : left ≤ 8
   pub chosen : mask < 2 ^ (8 - left)
-
--- what the walk carries to that place: the bytes of the groups taken so far, added
-pub record AddedUp (left mask total : ℕ) (figures : List ℕ) : Type 0 where
-  pub added : total ≡ mask_sum mask (drop left figures)
-  pub small : total ≤ 255 * (8 - left)
 
 -- as many groups as a ticket can have
 pub record Grouped (groups : ℕ) : Type 0 where

@@ -4,7 +4,7 @@
 -- multiple of 100, after 14."
 use Rattle.std.specs.Prelude.{ℕ, ◌%◌, ◌^◌, Bool, true, false, cond, not, ◌&&◌, ◌||◌, List, [], ◌∷◌, ◌++◌, ltb, leb, eqb, length, take, Option, None, Some}
 use Rattle.sale.specs.Lists.{every}
-use Rattle.sale.specs.Kinds.{kind_of, is_special_one, sizes_fit, jackpot_by}
+use Rattle.sale.specs.Kinds.{kind_of, is_special_one, sizes_fit, jackpot_by, jackpot_named}
 use Rattle.sale.specs.Ways.{sizes, size_word, ways, way_sizes}
 use Rattle.sale.specs.Price.{charge_limit, paid_games, stake_fits, game_price, charge}
 use Rattle.sale.specs.declared.terms.Sale.{Sale}
@@ -107,6 +107,6 @@ accepted_quote o =
       ways = way_count o;
       paid = paid_games o.games;
       charge = charge_of o;
-      jackpot = jackpot_of o;
+      jackpot = jackpot_named (jackpot_of o);
       sizes = size_word (sizes o.marks);
     }

@@ -1,8 +1,12 @@
 -- "Kinds: 0 standard (rule 18.1, ways of 1 to 15 numbers); 1 jackpot (all ways of 6 numbers, or all of 8);
 -- 2 Special One (rule 18.2, ways of 1 to 15, at least two ways); 3 Special Two (rule 18.3, ways of 3 to 6)."
-use Rattle.std.specs.Prelude.{ℕ, Bool, true, false, cond, ◌&&◌, ◌||◌, List, leb, eqb}
+use Rattle.std.specs.Prelude.{ℕ, Bool, true, false, cond, ◌&&◌, ◌||◌, List, leb, eqb, Option, None, Some, Result, ok_or}
+use Rattle.refusals.specs.declared.refusal.Refusal.{Refusal}
+use Rattle.refusals.specs.declared.refusal.Refusal.TheVariants.{UnknownJackpot}
 use Rattle.sale.specs.Lists.{every}
 use Rattle.sale.specs.Ways.{way_sizes}
+use Rattle.sale.specs.declared.terms.JackpotKind.{JackpotKind}
+use Rattle.sale.specs.declared.terms.JackpotKind.TheVariants.{Six, Eight}
 use Rattle.sale.specs.declared.terms.Kind.{Kind}
 use Rattle.sale.specs.declared.terms.Kind.TheVariants.{Standard, Jackpot, Special}
 use Rattle.sale.specs.declared.terms.Schedule.TheVariants.{One, Two}
@@ -48,3 +52,23 @@ jackpot_by t sizes =
     (cond (within 6 6 (way_sizes t.groups t.types sizes)) 6
     (cond (within 8 8 (way_sizes t.groups t.types sizes)) 8 0))
     0
+
+-- ---- the two jackpots by their numbers
+
+-- the numbers that each of a jackpot's ways selects
+abbrev pub number_of : JackpotKind → ℕ
+number_of Six = 6
+number_of Eight = 8
+
+-- the same where there may be none: 0
+abbrev pub jackpot_number : Option JackpotKind → ℕ
+jackpot_number None = 0
+jackpot_number (Some jackpot) = number_of jackpot
+
+-- the jackpot of a number, if it has one
+unfoldable pub jackpot_named : ℕ → Option JackpotKind
+jackpot_named n = cond (eqb n 6) (Some Six) (cond (eqb n 8) (Some Eight) None)
+
+-- the jackpot that an operand names, or the refusal of one that names none
+abbrev pub jackpot_operand : ℕ → Result JackpotKind Refusal
+jackpot_operand n = ok_or (jackpot_named n) UnknownJackpot

@@ -5,3 +5,4 @@ pub mod Price
 pub mod Checks
 pub mod Bounds
 pub mod Passes
+pub mod Noting

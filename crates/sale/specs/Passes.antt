@@ -1,12 +1,14 @@
 -- The walk over a ticket's ways as the code takes it, what a sale sees in it, and what the stages of a sale's checks tell. Only contracts speak of
--- these; the laws in proofs/WalkLaws and proofs/SurveyLaws join the walk to the ways themselves.
-use Rattle.std.specs.Prelude.{ℕ, zero, suc, ◌+◌, ◌*◌, ◌/◌, ◌%◌, ◌^◌, ◌≤◌, ◌<◌, min, max, ◌≡◌, Bool, cond, not, ◌&&◌, List, [], ◌∷◌, ◌++◌, map, leb, eqb, length, Result, IfOk}
+-- these; the laws in proofs/WalkLaws, proofs/NotedLaws and proofs/SurveyLaws join the walk to the ways themselves.
+use Rattle.std.specs.Prelude.{ℕ, zero, suc, ◌+◌, ◌*◌, ◌/◌, ◌%◌, ◌^◌, ◌≤◌, ◌<◌, min, max, ◌≡◌, Bool, cond, not, ◌&&◌, List, [], ◌∷◌, ◌++◌, map, leb, eqb, drop, Result, IfOk}
 use Rattle.std.specs.Int.Count.{ones}
+use Rattle.std.proofs.Common.{ap, arith}
 use Rattle.sale.specs.Kinds.{kind_of}
 use Rattle.sale.specs.Ways.{sizes, nominated, mask_sum, way_sizes}
 use Rattle.sale.specs.Price.{charge_limit, paid_games}
 use Rattle.sale.specs.Checks.{Operands, first_met, charge_of, mark_rows, way_rows, price_rows}
 use Rattle.sale.specs.Bounds.{Grouped, Bytes}
+use Rattle.sale.specs.Noting.{NotingLaws}
 use Rattle.sale.specs.declared.terms.Kind.{Kind}
 use Rattle.sale.specs.declared.survey.Survey.{Survey}
 use Rattle.refusals.specs.Refusal.{code_in}
@@ -19,6 +21,10 @@ unfoldable pub ways_from : ℕ → ℕ → ℕ → List ℕ
 ways_from types zero mask = cond (nominated types (ones mask)) (mask ∷ []) []
 ways_from types (suc left) mask = ways_from types left (mask * 2) ++ ways_from types left (mask * 2 + 1)
 
+-- their figures, from those of the groups
+abbrev pub figures_from : ℕ → List ℕ → ℕ → ℕ → List ℕ
+figures_from types table left mask = map (λ m. mask_sum m (drop 1 table)) (ways_from types left mask)
+
 -- Whether some number of groups, from so many taken to those with all that are left, has its bit in the types byte: bit k of the byte's
 -- double is that of k groups.
 unfoldable pub nominable : ℕ → ℕ → ℕ → Bool
@@ -29,10 +35,6 @@ unfoldable pub ends_here : ℕ → ℕ → ℕ → Bool
 ends_here types mask left = leb 3 left && not (nominable types (ones mask) left)
 
 -- ---- a sale's one look at its ways
-
--- the sizes of the ways that begin so, from the sizes of the groups
-abbrev pub sizes_from : ℕ → List ℕ → ℕ → ℕ → List ℕ
-sizes_from types sizes left mask = map (λ m. mask_sum m sizes) (ways_from types left mask)
 
 -- one way more, which selects so many numbers
 abbrev pub noted : Survey → ℕ → Survey
@@ -46,9 +48,21 @@ survey_from s (size ∷ sizes) = survey_from (noted s size) sizes
 abbrev pub survey_of : List ℕ → Survey
 survey_of sizes = survey_from (record { count = 0; least = 255; most = 0 }) sizes
 
--- a survey with room for the count of those ways
-pub record Unfilled (sizes : List ℕ) (s : Survey) : Type 0 where
-  pub room : s.count + length sizes < 2 ^ 32
+-- a survey with room for the count of so many ways more
+pub record Unfilled (s : Survey) (ways : ℕ) : Type 0 where
+  pub room : s.count + ways < 2 ^ 32
+
+-- a survey before and after a way is noted
+abbrev pub Notes : ℕ → Survey → Survey → Type 0
+Notes size s t = t ≡ noted s size
+
+-- A survey is an instance of what a walk notes.
+pub survey_laws : NotingLaws Unfilled Notes
+survey_laws =
+    record {
+      fewer = λ s n m le u. record { room = omega (arith, u.room) };
+      others = λ s t size n e u. record { room = omega (arith, u.room, ap (λ (r : Survey). r.count) e) };
+    }
 
 -- ---- a sale's checks, stage by stage
 

@@ -1,5 +1,6 @@
-// The operand checks of a sale. The number of groups is the caller's byte, bounded once check 9 has passed, and the sizes are an array of bytes: each is asked
-// for by a clause (`Grouped`, `Bytes`), since a type for either would be made of them here and taken apart in every function that is called.
+// The operand checks of a sale. The number of groups is the caller's byte, bounded once check 9 has passed: it is asked for by a clause (`Grouped`), since a type
+// for it would be made here and taken apart in every function that is called. The sizes are lent to the survey, and of what is lent the check knows no width of an
+// item: so that they are bytes is a clause too (`Bytes`).
 ghost use Rattle.std.specs.Prelude.{◌≡◌, not, ◌&&◌, ◌||◌, List, [], ◌∷◌, ℕ, ◌^◌, leb, eqb, take, IfOk};
 ghost use Rattle.refusals.specs.Refusal.{code_in};
 ghost use Rattle.sale.specs.Lists.{every};
@@ -11,17 +12,17 @@ ghost use Rattle.sale.specs.Passes.{MarksPassed, MarksChecked, WaysChecked, Pric
 use crate::marks::{group_sizes, size_word};
 use crate::price::{CHARGE_LIMIT, charge_of, paid_games, stake_fits};
 use crate::survey::{Survey, survey_ways};
-use crate::terms::{Kind, Sale};
+use crate::terms::{JackpotKind, Kind, Sale};
 use refusals::refusal::Refusal;
 
-// What a sale that passes is told: the number of ways, the paid games, the charge, the jackpot that they play for and the sizes of the groups in
-// one word. A jackpot is told by the size that all its ways have, 6 or 8, and 0 is none: that quantity is what the ticket's row keeps.
+// What a sale that passes is told: the number of ways, the paid games, the charge, the jackpot that they play for, if any, and the sizes of the groups in one
+// word.
 #[derive(Clone, Copy)]
 pub struct Quote {
     pub ways: u32,
     pub paid: u8,
     pub charge: u32,
-    pub jackpot: u8,
+    pub jackpot: Option<JackpotKind>,
     pub sizes: u64,
 }
 
@@ -32,7 +33,7 @@ struct Price {
     charge: u64,
 }
 
-// Whether x is from lo to hi.
+// Whether x is from lo to hi. A function, since its contract is in the terms of the table's rows: what std's `contains` of a range promises has another form.
 fn is_within(x: u8, lo: u8, hi: u8) -> bool
     ensures { result ≡ leb lo x && leb x hi }
 {
@@ -104,7 +105,7 @@ fn check_ways(sale: Sale, kind: Kind, sizes: [u8; 8]) -> Result<Survey, Refusal>
     Ok(survey)
 }
 
-// 31: a feature beside another kind than 0, or beside more than one way.
+// 31: a feature beside another kind than 0, or beside more than one way. The kind is asked by its number, as the row has it.
 #[tactic(auto, unfolding(crate::specs::Checks::first_met))]
 fn check_feature(feature: Option<u32>, kind: u8, count: u32) -> Result<(), Refusal>
     ensures { (o : Operands) → feature ≡ o.feature → kind ≡ o.kind → count ≡ way_count o → code_in result ≡ first_met (feature_row o ∷ []) }
@@ -112,10 +113,7 @@ fn check_feature(feature: Option<u32>, kind: u8, count: u32) -> Result<(), Refus
     if feature.is_none() {
         return Ok(());
     }
-    if kind != 0 {
-        return Err(Refusal::UnfitFeature);
-    }
-    if 1 < count {
+    if kind != 0 || 1 < count {
         return Err(Refusal::UnfitFeature);
     }
     Ok(())
@@ -140,10 +138,7 @@ fn check_feature_stake(feature: Option<u32>) -> Result<(), Refusal>
     let Some(stake) = feature else {
         return Ok(());
     };
-    if stake == 0 {
-        return Err(Refusal::UnfitFeatureStake);
-    }
-    if stake % 100 != 0 {
+    if stake == 0 || stake % 100 != 0 {
         return Err(Refusal::UnfitFeatureStake);
     }
     Ok(())
@@ -160,7 +155,8 @@ fn check_charge(charge: u64) -> Result<(), Refusal>
     Ok(())
 }
 
-// 31, 14, 32 and 15: the feature, whether it goes with the kind and the ways, and the price.
+// 31, 14, 32 and 15: the feature, whether it goes with the kind and the ways, and the price. The kind and the count are handed on beside the sale, here and
+// at the stake: they are what the earlier stages found, and a struct of the two would be made for these two calls.
 fn check_price(sale: Sale, kind: Kind, count: u32) -> Result<Price, Refusal>
     requires { Counted count }
     ensures { (marks : List ℕ) → kind ≡ kind_of sale.kind → count ≡ way_count (operands_of sale marks) → PriceChecked (operands_of sale marks) result }
@@ -174,7 +170,7 @@ fn check_price(sale: Sale, kind: Kind, count: u32) -> Result<Price, Refusal>
     Ok(Price { paid, charge })
 }
 
-// The checks in the order of the table: the first that is not passed refuses the sale.
+// The checks in the order of the table: the first that is not passed refuses the sale. `as` loses nothing: a charge that passes is at most 999,900.
 pub fn quote_for(sale: Sale, marks: &[u8]) -> Result<Quote, Refusal>
     ensures code { code_in result ≡ operand_code (operands_of sale marks.now) }
     ensures quote { IfOk result (λ quote. quote ≡ accepted_quote (operands_of sale marks.now)) }

@@ -7,4 +7,5 @@ pub mod marks;
 pub mod price;
 pub mod survey;
 pub mod terms;
+pub mod walk;
 pub mod ways;

@@ -53,7 +53,8 @@ pub fn stake_fits(kind: Kind, count: u32, stake: u32) -> bool
     }
 }
 
-// The price of so many paid games: the stakes of the ways and the feature stake, for each of them.
+// The price of so many paid games: the stakes of the ways and the feature stake, for each of them. Sums and places here widen by `as`: that is the number
+// itself to the check, where a `From` is a call whose result each proof has to follow.
 #[tactic(auto, unfolding(crate::specs::Price::game_price, crate::specs::Price::charge))]
 pub fn charge_of(stake: u32, count: u32, feature: u32, paid: u8) -> u64
     requires { Counted count }

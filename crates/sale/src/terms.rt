@@ -1,6 +1,8 @@
 // Kinds, schedules, the operands of a sale and the terms of a ticket.
 ghost use Rattle.std.specs.Prelude.{◌≡◌};
-ghost use Rattle.sale.specs.Kinds.{kind_of, kind_number, is_jackpot, is_special_one};
+ghost use Rattle.sale.specs.Kinds.{kind_of, kind_number, is_jackpot, is_special_one, number_of, jackpot_operand};
+
+use refusals::refusal::Refusal;
 
 // The schedule that a special entry plays for: rule 18.2 or rule 18.3.
 #[derive(Clone, Copy, PartialEq, Eq, Debug)]
@@ -15,6 +17,13 @@ pub enum Kind {
     Standard,
     Jackpot,
     Special(Schedule),
+}
+
+// The two jackpots, by the numbers that each of their ways selects (document 01: 6 or 8).
+#[derive(Clone, Copy, PartialEq, Eq, Debug)]
+pub enum JackpotKind {
+    Six = 6,
+    Eight = 8,
 }
 
 // A sale's operands as the caller gives them, but for the marks, which stand beside them. `feature` is what the sale enters beside its ways: nothing, or the
@@ -39,7 +48,8 @@ pub struct Terms {
     pub types: u8,
 }
 
-// The kind of a number. Numbers over 3 are refused before they come here, and are the last kind.
+// The kind of a number. Numbers over 3 are refused before they come here, and are the last kind. It stays a `From`: it cannot fail, and a `TryFrom` beside it
+// would be a second reading of the same number, which nobody calls.
 impl From<u8> for Kind {
     ghost from_gives = { λ number kind. kind ≡ kind_of number };
 
@@ -62,6 +72,30 @@ impl From<Kind> for u8 {
             Kind::Jackpot => 1,
             Kind::Special(Schedule::One) => 2,
             Kind::Special(Schedule::Two) => 3,
+        }
+    }
+}
+
+impl From<JackpotKind> for u64 {
+    ghost from_gives = { λ jackpot number. number ≡ number_of jackpot };
+
+    fn from(jackpot: JackpotKind) -> u64 {
+        jackpot as u64
+    }
+}
+
+// The jackpot that an operand names. Any number but 6 and 8 is refused.
+impl TryFrom<u8> for JackpotKind {
+    type Error = Refusal;
+
+    ghost try_from_gives = { λ number found. found ≡ jackpot_operand number };
+
+    #[tactic(auto, using(std::proofs::lemmas::Bool::Decides::nat_tests), unfolding(crate::specs::Kinds::jackpot_named))]
+    fn try_from(number: u8) -> Result<JackpotKind, Refusal> {
+        match number {
+            6 => Ok(JackpotKind::Six),
+            8 => Ok(JackpotKind::Eight),
+            _ => Err(Refusal::UnknownJackpot),
         }
     }
 }

@@ -1,6 +1,6 @@
 -- The prizes of a game ticket by ticket: the major ones of all tickets one behind the other are the rule's list, each is a major prize and small;
 -- and what the tickets are paid by the rule, spread over all live tickets.
-use Prim.Native.Nat.{ℕ, zero, suc, ◌≤◌, ◌<◌}
+use Prim.Native.Nat.{ℕ, zero, suc, ◌≤◌, ◌<◌, ◌^◌}
 use mathlib.Core.Path.{◌≡◌, refl, sym, ap, ◌∙◌, subst}
 use mathlib.Core.Bool.{Bool, true, false, cond}
 use mathlib.Core.List.{List, [], ◌∷◌, ◌++◌, map, map-map, append_assoc, append-nil, Memᴰ}
@@ -18,6 +18,7 @@ use Rattle.prizes.specs.Hits.{hits}
 use Rattle.prizes.specs.Settle.{prizes_by, way_prizes, full_matches, majors_of, prizes_of}
 use Rattle.prizes.specs.declared.draw.Draw.{Draw}
 use Rattle.sale.specs.declared.terms.Terms.{Terms}
+use Rattle.prizes.proofs.PrizeLaws.{prize_bound}
 use Rattle.sale.proofs.WayLaws.{ways_few}
 use Rattle.prizes.proofs.CutFloors.{member_kept}
 use Rattle.sale.specs.Bounds.{Sound, Playable}
@@ -71,7 +72,18 @@ own_major [] i p h m = absurd (omega arith)
 own_major (ps ∷ pss) zero p h m = member_left (keep is_major ps) (all_majors pss) p m
 own_major (ps ∷ pss) (suc i) p h m = member_right (keep is_major ps) (all_majors pss) p (own_major pss i p (le_of_suc-le-suc h) m)
 
--- each is a major prize
+-- each is a major prize, and has what holds of every prize
+module _ (P : ℕ → Type 0) where
+  pub majors_all : (pss : List (List ℕ)) → ((ps : List ℕ) → Memᴰ ps pss → (p : ℕ) → Memᴰ p ps → P p)
+      → (p : ℕ) → Memᴰ p (all_majors pss) → P p
+  unfolding all_majors
+  majors_all [] each p m = elim m [ ]
+  majors_all (ps ∷ pss) each p m =
+      ⊎_elim
+      (λ k. each ps (Memᴰ.head refl) p (member_kept is_major ps p k).0)
+      (λ k. majors_all pss (λ qs q. each qs (Memᴰ.tail q)) p k)
+      (member_append (keep is_major ps) (all_majors pss) p m)
+
 pub majors_large : (pss : List (List ℕ)) (p : ℕ) → Memᴰ p (all_majors pss) → major_floor ≤ p
 unfolding all_majors
 majors_large [] p m = elim m [ ]
@@ -83,11 +95,30 @@ majors_large (ps ∷ pss) p m =
 
 -- ---- the prizes of a ticket
 
+member_of_map : {A : Type 0} (f : A → ℕ) (P : ℕ → Type 0) (xs : List A) → ((x : A) → P (f x)) → (p : ℕ) → Memᴰ p (map f xs) → P p
+member_of_map f P [] each p m = elim m [ ]
+member_of_map f P (x ∷ xs) each p (Memᴰ.head e) = subst P (sym e) (each x)
+member_of_map f P (x ∷ xs) each p (Memᴰ.tail m) = member_of_map f P xs each p m
+
+by_small : (t : Terms) (ss hs : List ℕ) → Sound t → (p : ℕ) → Memᴰ p (prizes_by t ss hs) → p < 2 ^ 40
+unfolding prizes_by
+by_small t ss hs sound p m =
+    member_of_map _ (λ n. n < 2 ^ 40) (ways t.groups t.types) (λ w. prize_bound t.kind t.stake _ _ sound.stake) p m
+
 by_few : (t : Terms) (ss hs : List ℕ) → Sound t → length (prizes_by t ss hs) ≤ 255
 unfolding prizes_by
 by_few t ss hs sound = subst (λ n. n ≤ 255) (sym (length-map (ways t.groups t.types) _)) (ways_few t.types sound.groups)
 
 module _ (game : ℕ) (draw : Draw) (t : Ticket) (playable : Playable t.operands) where
+  pub prizes_small : (p : ℕ) → Memᴰ p (prizes_at game draw t) → p < 2 ^ 40
+  unfolding prizes_at
+  prizes_small p m = go (runs_in game t) m
+    where
+      go : (b : Bool) → Memᴰ p (cond b (way_prizes draw (entry_of game t)) []) → p < 2 ^ 40
+      go true k =
+          by_small (terms_of t.operands) (sizes t.operands.marks) (hits draw t.operands.marks) (terms_sound t.operands playable) p k
+      go false k = elim k [ ]
+
   pub prizes_few : length (prizes_at game draw t) ≤ 255
   unfolding prizes_at
   prizes_few = go (runs_in game t)

@@ -1,9 +1,10 @@
 -- The steps of the code that finds a game's prizes: a ticket from its row, the loop that fills the tables, the loop that raises the major prizes, and
 -- what a reached house gives.
-use Prim.Native.Nat.{ℕ, zero, suc, ◌+◌, ◌*◌, ◌-◌, ◌≤◌, ◌<◌}
+use Prim.Native.Nat.{ℕ, zero, suc, ◌+◌, ◌*◌, ◌-◌, ◌≤◌, ◌<◌, ◌^◌}
 use mathlib.Core.Path.{◌≡◌, refl, sym, ap, ap₂, ◌∙◌, subst}
 use mathlib.Core.Bool.{Bool, true, false, cond}
 use mathlib.Core.List.{List, [], ◌∷◌, ◌++◌, map, map-map, map-append, append_assoc, Memᴰ}
+use mathlib.Core.Logic.{⊎_elim}
 use native.Mathlib.Nat.{le_of_suc-le-suc, add-zero, zero-add, le_trans, mul-le-mul_right}
 use native.Mathlib.Numerals.{add-one}
 use native.Mathlib.Decide.{dec_lt}
@@ -20,7 +21,7 @@ use Rattle.prizes.specs.Hits.{hits}
 use Rattle.sale.specs.Bounds.{Playable}
 use Rattle.prizes.specs.Bounds.{way_prizes_limit}
 use Rattle.prizes.specs.Found.{group_sizes, group_hits, word_bytes, GroupsOf, FoundWith}
-use Rattle.prizes.specs.Rounds.{pay_under, Pays, Raisable}
+use Rattle.prizes.specs.Rounds.{pay_under, Pays, Listed, Raisable}
 use Rattle.prizes.specs.Settle.{prizes_by, full_by}
 use Rattle.prizes.specs.declared.draw.Draw.{Draw}
 use Rattle.sale.specs.declared.terms.Terms.{Terms}
@@ -47,7 +48,7 @@ use Rattle.house.specs.declared.rows.Row.{Row}
 use Rattle.house.proofs.Ledger.{All, Kept}
 use Rattle.house.proofs.ReachedHouses.{reached_sure}
 use Rattle.house.proofs.RowLists.{get_or_map, length_table, get_or_table}
-use Rattle.settlement.proofs.PassLaws.{majors_snoc, majors_next, majors_split, own_major, majors_large, prizes_few, paid_spread, matches_spread}
+use Rattle.settlement.proofs.PassLaws.{member_append, majors_snoc, majors_next, majors_split, own_major, majors_all, majors_large, prizes_small, prizes_few, paid_spread, matches_spread}
 
 -- ---- one ticket, from its row
 
@@ -187,6 +188,18 @@ take_table f (suc n) i h = go (leb i n) refl (take_table f n i)
         (take_all (suc n) (map f (below n ++ (n ∷ [])))
         (omega (arith, length-map (below n ++ (n ∷ [])) f, length-append (below n) (n ∷ []), length-map (below n) f, length_table f n)))
 
+-- what holds of each place of a table holds of its members
+table_members : {A : Type 0} (f : ℕ → A) (P : A → Type 0) (n : ℕ) → ((k : ℕ) → k < n → P (f k)) → (x : A) → Memᴰ x (map f (below n)) → P x
+unfolding below
+table_members f P zero each x m = elim m [ ]
+table_members f P (suc n) each x m =
+    ⊎_elim (λ k. table_members f P n (λ j h. each j (omega arith)) x k) last
+    (member_append (map f (below n)) (f n ∷ []) x (subst (Memᴰ x) (map-append f (below n) (n ∷ [])) m))
+  where
+    last : Memᴰ x (f n ∷ []) → P x
+    last (Memᴰ.head e) = subst P (sym e) (each n (omega arith))
+    last (Memᴰ.tail k) = elim k [ ]
+
 -- ---- the loop that fills the table of ways
 
 module _ (g : DrawnGame) where
@@ -220,13 +233,13 @@ module _ (g : DrawnGame) where
   module _ {before : List ℕ} {i : ℕ} {ways : List TicketWays} {majors : Majors} (f : Finding before i ways majors) where
     pub finding_more : i < g.live → (r : Found) (majors' : Majors)
         → FoundAt g.game g.draw (ticket_in g.rows.now g.marks.now i) majors r majors'
-        → Finding before (i + 1) (set ways i (record { sure = r.sure; full = r.full; majors = majors'.count })) majors'
+        → Finding before (i + 1) (set ways i (record { found = r; majors = majors'.count })) majors'
     finding_more inside r majors' a =
         let own = keep is_major (prizes_at g.game g.draw (ticket_at i)) in
         let own_few : length own ≤ 255 = omega (arith, length_keep_le is_major (prizes_at g.game g.draw (ticket_at i)), prizes_few g.game g.draw (ticket_at i) (g.sold.each i inside).playable) in
         let counted : majors'.count ≡ length (all_majors (prize_lists (i + 1))) =
         a.behind.count ∙ ap (λ n. n + length own) f.together ∙ sym (ap length (majors_more i) ∙ length-append (all_majors (prize_lists i)) own) in
-        let here : record { sure = r.sure; full = r.full; majors = majors'.count } ≡ ways_at g i = λ k. record { sure = a.sure k; full = a.full k; majors = counted k } in
+        let here : record { found = r; majors = majors'.count } ≡ ways_at g i = λ k. record { found = record { sure = a.sure k; full = a.full k }; majors = counted k } in
         record {
           inside = omega arith;
           found = filled_more _ f.found inside _ here;
@@ -346,9 +359,9 @@ module _ (pss : List (List ℕ)) (ways : List TicketWays) (majors : List ℕ) (c
   raising_none long = record { inside = omega arith; place = refl; done = filled_none _ (long ∙ ways_count) }
 
   -- what is sure of a ticket
-  pub sure_at : (i : ℕ) → i < length pss → (get_or ways i no_ways).sure ≡ sure_cents (get_or pss i [])
+  pub sure_at : (i : ℕ) → i < length pss → (get_or ways i no_ways).found.sure ≡ sure_cents (get_or pss i [])
   sure_at i inside =
-      sym (get_or_map (λ w. w.sure) ways i no_ways 0 (omega (arith, ways_count)))
+      sym (get_or_map (λ w. w.found.sure) ways i no_ways 0 (omega (arith, ways_count)))
       ∙ ap (λ (l : List ℕ). get_or l i 0) k.tables.cents ∙ get_or_map_at sure_cents pss i inside
 
   pub raising_more : {i : ℕ} {paid : List ℕ} {from x : ℕ} → Raising i paid from → i < length pss
@@ -438,21 +451,27 @@ module _ (g : DrawnGame) where
           (paid_sure (all_majors placed) (get_or placed i [])
           (λ p m. payout_many (all_majors placed) (majors_large placed) many p (own_major placed i p inside m)))
 
+  placed_small : (p : ℕ) → Memᴰ p (all_majors placed) → p < 2 ^ 40
+  placed_small =
+      majors_all (λ p. p < 2 ^ 40) placed
+      (table_members prize_at (λ ps. (p : ℕ) → Memᴰ p ps → p < 2 ^ 40) g.live
+      (λ k inside. prizes_small g.game g.draw (ticket_in g.rows.now g.marks.now k) (g.sold.each k inside).playable))
+
   -- ---- the parts together
 
   module _ {ways : List TicketWays} {before : List ℕ} {majors : Majors} (f : FoundAll g ways before majors) where
     matched : Matched g ways
     matched =
-        ap full_of f.found ∙ map-map (λ w. w.full) (ways_at g) (below g.live)
+        ap full_of f.found ∙ map-map (λ w. w.found.full) (ways_at g) (below g.live)
         ∙ sym (map-map (matches_at g.game g.draw) (ticket_in g.rows.now g.marks.now) (below g.live))
         ∙ matches_spread g.game g.draw (drawn_tickets g)
 
-    sure_found : map (λ w. w.sure) ways ≡ map sure_cents placed
+    sure_found : map (λ w. w.found.sure) ways ≡ map sure_cents placed
     sure_found =
-        ap (map (λ w. w.sure)) f.found ∙ map-map (λ w. w.sure) (ways_at g) (below g.live) ∙ sym (map-map sure_cents prize_at (below g.live))
+        ap (map (λ w. w.found.sure)) f.found ∙ map-map (λ w. w.found.sure) (ways_at g) (below g.live) ∙ sym (map-map sure_cents prize_at (below g.live))
 
     -- what the rule pays the ways where 250 prizes are major or more
-    pub sure_paid : {paid : List ℕ} → 250 ≤ majors.count → paid ≡ map (λ w. w.sure) ways → PaidOut g ways paid
+    pub sure_paid : {paid : List ℕ} → 250 ≤ majors.count → paid ≡ map (λ w. w.found.sure) ways → PaidOut g ways paid
     sure_paid many paid = record { payouts = paid ∙ sure_found ∙ sure_spread (omega (arith, f.together)); matches = matched }
 
     long : length majors.prizes ≡ 250
@@ -481,6 +500,14 @@ module _ (g : DrawnGame) where
       first_prizes : take majors.count majors.prizes ≡ all_majors placed
       first_prizes = ap (take majors.count) whole ∙ take_at (all_majors placed) others majors.count (sym f.together)
 
+      -- what the cut asks of those that are stored
+      pub found_listed : Listed (take majors.count majors.prizes)
+      found_listed =
+          record {
+            few = omega (arith, ap length first_prizes, f.together);
+            each = λ p m. let among = subst (Memᴰ p) first_prizes m in record { large = majors_large placed p among; small = placed_small p among };
+          }
+
       found_cutting : {c : Cut} → Pays c (take majors.count majors.prizes) → Cutting placed ways majors.prizes c
       found_cutting {c} pays =
           record {
@@ -490,7 +517,7 @@ module _ (g : DrawnGame) where
             long = long;
             rest = others;
             whole = whole;
-            small = λ p m. (majors.listed.each p (subst (Memᴰ p) (sym first_prizes) m)).small;
+            small = placed_small;
             pays = subst (Pays c) first_prizes pays;
           }
 

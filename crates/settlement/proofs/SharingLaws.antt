@@ -9,6 +9,9 @@ use mathlib.Core.Bool.{Bool, true, false, cond}
 use mathlib.Core.List.{List, [], ◌∷◌, ◌++◌, map, map-map, map-append, zip_with}
 use lib.Dec.{eqb, ltb}
 use lib.ListN.{length, set, get_or, length-map}
+use Rattle.std.specs.List as List_std
+use Rattle.std.specs.List.{range_with_len}
+use Rattle.std.proofs.lemmas.List.FromFn.{sum_by-map-range_with_len_more}
 use borrow.Author.Tests.{ltb-true, ltb-false, lt-ltb, eq-eqb, ne_eqb}
 use Rattle.sale.specs.Lists.{sum, keep, below}
 use Rattle.sale.specs.Price.{charge_limit, charge, game_price}
@@ -32,8 +35,8 @@ use Rattle.settlement.specs.declared.drawn_game.DrawnGame.{DrawnGame}
 use Rattle.house.specs.declared.rows.Row.{Row}
 use Rattle.settlement.specs.declared.shares.Part.{Part}
 use Rattle.settlement.specs.declared.ways.TicketWays.{TicketWays}
-use Rattle.settlement.specs.Kinds.{number_of}
-use Rattle.settlement.specs.declared.jackpot_kind.JackpotKind.{JackpotKind}
+use Rattle.sale.specs.Kinds.{number_of}
+use Rattle.sale.specs.declared.terms.JackpotKind.{JackpotKind}
 use Rattle.settlement.specs.declared.figures.Stakes.{Stakes}
 use Rattle.settlement.specs.Sharing.{paid_at, paid_in, stakes_at, stakes_in, winner_from, winner_at, winners_in, stakes_of, Entered, Shareable}
 use Rattle.house.proofs.ListLaws.{cond_either}
@@ -141,6 +144,15 @@ module _ (words full : List ℕ) (j : ℕ) where
     pub figures_more : (i : ℕ) → sum (map f (winners_in words full j (i + 1))) ≡ sum (map f (winners_in words full j i)) + f (winner_at words full j i)
     figures_more i =
         ap (λ ws. sum (map f ws)) (winners_more i) ∙ sum_snoc f (winners_in words full j i) (winner_at words full j i)
+
+    -- std's sum over the places is that of the winners at them
+    pub figures_ranged : (n : ℕ) → List_std.sum (map (λ i. f (winner_at words full j i)) (range_with_len 0 n)) ≡ sum (map f (winners_in words full j n))
+    figures_ranged zero = sym figures_none
+    figures_ranged (suc n) =
+        subst (λ k. List_std.sum (map (λ i. f (winner_at words full j i)) (range_with_len 0 k)) ≡ sum (map f (winners_in words full j k))) (add-one n)
+        (sum_by-map-range_with_len_more (λ k. k) (λ i. f (winner_at words full j i)) 0 n n (omega arith)
+        ∙ ap (λ k. k + f (winner_at words full j n)) (figures_ranged n)
+        ∙ sym (figures_more n))
 
     -- those of the first rows are within those of more rows
     pub figures_rise : (i n : ℕ) → i ≤ n → sum (map f (winners_in words full j i)) ≤ sum (map f (winners_in words full j n))
@@ -278,11 +290,11 @@ module _ (words full : List ℕ) (game : ℕ) (j : JackpotKind) (i : ℕ) (s : S
 -- ---- one row's winning ways, from the row and the place of the table that were read
 
 module _ (words : List ℕ) (ways : List TicketWays) (i : ℕ) (inside : i < length ways) where
-  pub full_here : get_or (full_of ways) i 0 ≡ (get_or ways i no_ways).full
-  full_here = get_or_map (λ w. w.full) ways i no_ways 0 inside
+  pub full_here : get_or (full_of ways) i 0 ≡ (get_or ways i no_ways).found.full
+  full_here = get_or_map (λ w. w.found.full) ways i no_ways 0 inside
 
   module _ (j : ℕ) (w : Row) (read : w ≡ row_at words i) where
-    pub plays_count : w.jackpot ≡ j → (get_or ways i no_ways).full ≡ (winner_at words (full_of ways) j i).count
+    pub plays_count : w.jackpot ≡ j → (get_or ways i no_ways).found.full ≡ (winner_at words (full_of ways) j i).count
     unfolding winner_at
     plays_count plays =
         sym full_here
@@ -476,7 +488,7 @@ module _ (game j : ℕ) (draw : Draw) where
 
 pub matched_count : (g : DrawnGame) (ways : List TicketWays) → Matched g ways → length ways ≡ g.live
 matched_count g ways matches =
-    sym (length-map ways (λ w. w.full)) ∙ ap length matches ∙ length_spread g.game _ (drawn_tickets g)
+    sym (length-map ways (λ w. w.found.full)) ∙ ap length matches ∙ length_spread g.game _ (drawn_tickets g)
     ∙ length_table (ticket_in g.rows.now g.marks.now) g.live
 
 module _ (g : DrawnGame) (full : List ℕ) (matches : full ≡ spread g.game (full_in g.game g.draw (drawn_tickets g)) (drawn_tickets g)) where

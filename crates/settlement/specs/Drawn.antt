@@ -22,8 +22,11 @@ drawn_tickets g = live_in g.rows.now g.marks.now g.live
 abbrev pub ways_at : DrawnGame → ℕ → TicketWays
 ways_at g i =
     record {
-      sure = sure_cents (prizes_at g.game g.draw (ticket_in g.rows.now g.marks.now i));
-      full = matches_at g.game g.draw (ticket_in g.rows.now g.marks.now i);
+      found =
+          record {
+            sure = sure_cents (prizes_at g.game g.draw (ticket_in g.rows.now g.marks.now i));
+            full = matches_at g.game g.draw (ticket_in g.rows.now g.marks.now i);
+          };
       majors = length (all_majors (prizes_below g.rows.now g.marks.now g.game g.draw (i + 1)));
     }
 

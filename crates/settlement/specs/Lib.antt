@@ -1,4 +1,3 @@
-pub mod Kinds
 pub mod Settling
 pub mod Passing
 pub mod Sharing

@@ -65,14 +65,14 @@ pub record FoundAt (game : ℕ) (draw : Draw) (t : Ticket) (majors : Majors) (r 
 
 -- the full matches in a table
 abbrev pub full_of : List TicketWays → List ℕ
-full_of ways = map (λ w. w.full) ways
+full_of ways = map (λ w. w.found.full) ways
 
 abbrev pub no_ways : TicketWays
-no_ways = record { sure = 0; full = 0; majors = 0 }
+no_ways = record { found = record { sure = 0; full = 0 }; majors = 0 }
 
 -- Of the tickets whose prizes these are: what each is paid in any case, and how many major prizes those up to it have.
 pub record Tables (pss : List (List ℕ)) (ways : List TicketWays) : Type 0 where
-  pub cents : map (λ w. w.sure) ways ≡ map sure_cents pss
+  pub cents : map (λ w. w.found.sure) ways ≡ map sure_cents pss
   pub up_to : (i : ℕ) → i < length pss → (get_or ways i no_ways).majors ≡ length (all_majors (take (i + 1) pss))
 
 -- the same table of at most 200 tickets, all their major prizes in another, and the state of the cut under which they are paid by the rule

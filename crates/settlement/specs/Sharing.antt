@@ -7,9 +7,9 @@ use Rattle.prizes.specs.Jackpots.{Winner, winning_stakes}
 use Rattle.house.specs.Tickets.{runs_in, paid_stakes}
 use Rattle.house.specs.View.{row_at, ticket_in, Affordable}
 use Rattle.house.specs.declared.rows.Row.{Row}
-use Rattle.settlement.specs.Kinds.{number_of}
-use Rattle.settlement.specs.declared.jackpot_kind.JackpotKind.{JackpotKind}
-use Rattle.settlement.specs.declared.jackpot_kind.JackpotKind.TheVariants.{Six, Eight}
+use Rattle.sale.specs.Kinds.{number_of}
+use Rattle.sale.specs.declared.terms.JackpotKind.{JackpotKind}
+use Rattle.sale.specs.declared.terms.JackpotKind.TheVariants.{Six, Eight}
 use Rattle.settlement.specs.declared.figures.Stakes.{Stakes}
 use Rattle.settlement.specs.declared.figures.GameFigures.{GameFigures}
 

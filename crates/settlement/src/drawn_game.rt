@@ -34,7 +34,7 @@ impl<'a> DrawnGame<'a> {
         read_row(self.rows, i)
     }
 
-    // Its marks.
+    // Its marks, by the place of the first, as they are written.
     pub(crate) fn marks_of(&self, i: usize) -> &'a [u8]
         requires { i < self.now.live }
         ensures { result.now ≡ marks_at self.now.marks.now i }

@@ -1,6 +1,6 @@
 // All prizes of a drawn game: those of the ways, as cut, and then Lucky Last's, which no cut touches.
-ghost use Rattle.std.specs.Prelude.{◌≡◌, ℕ, ◌+◌, ◌<◌, ◌^◌, length, get_or};
-ghost use mathlib.Core.List.{map, zip_with};
+ghost use Rattle.std.specs.Prelude.{◌≡◌, ℕ, ◌+◌, ◌<◌, ◌^◌, length, get_or, map};
+ghost use mathlib.Core.List.{zip_with};
 ghost use Rattle.house.specs.View.{ticket_in};
 ghost use Rattle.sale.specs.Lists.{sum};
 ghost use Rattle.settlement.specs.Settling.{feature_at, prizes_in};
@@ -9,10 +9,10 @@ ghost use Rattle.settlement.specs.Drawn.{drawn_tickets, Prized};
 use crate::drawn_game::DrawnGame;
 use crate::payouts::find_payouts;
 use crate::ways::TicketWays;
-use house::ticket::runs_in;
 use prizes::lucky_last::feature_prize;
 
 // The feature prize of the ticket at a place: nothing where it has no feature or does not run in the game. Most have none, so that is asked first.
+// A ticket as it was sold keeps the feature stake within 32 bits, so that `as` loses nothing: `try_from` would add an error that cannot be.
 #[tactic(auto, using(crate::proofs::FeatureLaws::no_feature_at))]
 fn feature_at(game: &DrawnGame, i: usize) -> u64
     requires { i < game.now.live }
@@ -22,7 +22,7 @@ fn feature_at(game: &DrawnGame, i: usize) -> u64
     if row.feature == 0 {
         return 0;
     }
-    if !runs_in(game.game, row) {
+    if !row.runs_in(game.game) {
         return 0;
     }
     feature_prize(game.draw, game.marks_of(i), row.sizes, row.feature as u32)

@@ -3,15 +3,14 @@
 ghost use Rattle.std.specs.Prelude.{◌≡◌, cond, ◌+◌, ◌*◌, ◌<◌, ◌^◌, eqb, sum};
 ghost use Rattle.prizes.specs.Jackpots.{winning_stake};
 ghost use Rattle.settlement.specs.Passing.{full_of};
-ghost use Rattle.settlement.specs.Kinds.{number_of};
-ghost use Rattle.settlement.specs.Sharing.{winner_from, figures_of, stakes_of};
+ghost use Rattle.sale.specs.Kinds.{number_of};
+ghost use Rattle.settlement.specs.Sharing.{winner_from, figures_of};
 ghost use Rattle.settlement.specs.Drawn.{Matched};
 
 use crate::drawn_game::DrawnGame;
-use crate::jackpot_kind::JackpotKind;
 use crate::ways::TicketWays;
 use house::rows::Row;
-use house::ticket::paid_for;
+use sale::terms::JackpotKind;
 
 // Of the tickets that play for a jackpot: what they paid for the game, and the stakes of their ways that match in full.
 #[derive(Clone, Copy)]
@@ -41,7 +40,7 @@ impl Stakes {
         ensures paid { result.paid ≡ self.paid + cond (eqb row.jackpot (number_of self.jackpot)) paid 0 }
         ensures winning { result.winning ≡ self.winning + winning_stake (winner_from row full (number_of self.jackpot)) }
     {
-        if row.jackpot != self.jackpot.number() {
+        if row.jackpot != u64::from(self.jackpot) {
             return self;
         }
         Stakes {
@@ -73,10 +72,10 @@ pub(crate) fn find_figures(game: &DrawnGame, ways: &[TicketWays], paid: &[u64]) 
     let mut eight = Stakes::none(JackpotKind::Eight);
     for (i, ways) in ways.iter().enumerate() {
         let row = game.row(i);
-        let own = paid_for(game.game, row);
+        let own = row.paid_for(game.game);
         stakes += own;
-        six = six.with_ticket(row, own, ways.full);
-        eight = eight.with_ticket(row, own, ways.full);
+        six = six.with_ticket(row, own, ways.found.full);
+        eight = eight.with_ticket(row, own, ways.found.full);
     }
     GameFigures {
         prizes,

@@ -5,7 +5,6 @@
 mod drawn_game;
 mod features;
 mod figures;
-mod jackpot_kind;
 mod payouts;
 mod primary;
 pub mod settle;

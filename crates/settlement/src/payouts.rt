@@ -1,7 +1,7 @@
 // The prizes of the ways in a drawn game: each ticket's, as cut, and its full matches. One pass over the ways of all tickets finds what is sure of each
 // prize, of a major one the floor, and lists the major prizes. Where they are fewer than 250, the cut goes over that list and each is raised to what
 // it is paid; of 250 or more each is paid the floor.
-ghost use Rattle.std.specs.Prelude.{◌≡◌, ◌<◌, ◌≤◌, List, [], ℕ, length, map};
+ghost use Rattle.std.specs.Prelude.{◌≡◌, ◌<◌, List, [], ℕ, length, map};
 ghost use Rattle.prizes.specs.Found.{Counting};
 ghost use Rattle.house.specs.Tickets.{terms_of};
 ghost use Rattle.house.specs.View.{ticket_from, ticket_in};
@@ -11,7 +11,6 @@ ghost use Rattle.settlement.specs.Drawn.{FoundAll, PaidOut};
 use crate::drawn_game::DrawnGame;
 use crate::ways::TicketWays;
 use house::rows::Row;
-use house::ticket::runs_in;
 use prizes::cut::{Cut, FLOORS_IN_LIMIT};
 use prizes::found::{Found, ticket_prizes};
 use prizes::groups::GroupTable;
@@ -19,7 +18,8 @@ use prizes::majors::Majors;
 use prizes::schedule::PrizeTable;
 use sale::terms::{Kind, Terms};
 
-// What a ticket plays for, from its row. No `From`: both types are of lower crates.
+// What a ticket plays for, from its row. No `From`, which could not ask for `Narrow`. That bounds each word, so that `as` loses nothing: `try_from` would add
+// an error that cannot be.
 fn row_terms(row: Row) -> Terms
     requires { Narrow row }
     ensures { result ≡ terms_of (ticket_from row []).operands }
@@ -40,7 +40,7 @@ fn find_ticket(game: &DrawnGame, i: usize, table: &PrizeTable, majors: &mut Majo
     ensures { FoundAt game.now.game game.now.draw (ticket_in game.now.rows.now game.now.marks.now i) majors.old result majors.new }
 {
     let row = game.row(i);
-    if !runs_in(game.game, row) {
+    if !row.runs_in(game.game) {
         return Found { sure: 0, full: 0 };
     }
     let groups = GroupTable::of(row.sizes, game.draw, game.marks_of(i));
@@ -55,26 +55,25 @@ fn find_all(game: &DrawnGame, ways: &mut [TicketWays], majors: &mut Majors)
 {
     let table = PrizeTable::of_the_rules();
     for (i, ways) in ways.iter_mut().enumerate() {
-        let Found { sure, full } = find_ticket(game, i, &table, majors);
+        let found = find_ticket(game, i, &table, majors);
         *ways = TicketWays {
-            sure,
-            full,
+            found,
             majors: majors.count,
         };
     }
 }
 
-// Each ticket paid what is sure of its prizes.
+// Each ticket paid what is sure of its prizes. No `zip` with the ways: tried, and after it nothing was known of what had been written.
 fn pay_sure(ways: &[TicketWays], paid: &mut [u64])
     requires { length paid.old ≡ length ways.now }
-    ensures { paid.new ≡ map (λ w. w.sure) ways.now }
+    ensures { paid.new ≡ map (λ w. w.found.sure) ways.now }
 {
     for (i, paid) in paid.iter_mut().enumerate() {
-        *paid = ways[i].sure;
+        *paid = ways[i].found.sure;
     }
 }
 
-// Each ticket paid its prizes, of which the major ones are raised from the floor to what they are paid under a state of the cut.
+// Each ticket paid its prizes, of which the major ones are raised from the floor to what they are paid under a state of the cut. No `zip`, as above.
 fn pay_raised(ways: &[TicketWays], majors: &Majors, cut: Cut, paid: &mut [u64])
     requires places { length paid.old ≡ length ways.now }
     requires cut { CutOf ways.now majors.now.prizes cut }
@@ -83,7 +82,7 @@ fn pay_raised(ways: &[TicketWays], majors: &Majors, cut: Cut, paid: &mut [u64])
     let mut from = 0;
     for (i, paid) in paid.iter_mut().enumerate() {
         let end = ways[i].majors as usize;
-        *paid = ways[i].sure + majors.raise(from, end - from, cut);
+        *paid = ways[i].found.sure + majors.raise(from, end - from, cut);
         from = end;
     }
 }

@@ -2,6 +2,7 @@
 ghost use Rattle.std.specs.Prelude.{◌≡◌, ℕ, ◌+◌, ◌*◌, ◌<◌, ◌^◌, min, length, get_or};
 ghost use mathlib.Core.List.{zip_with};
 ghost use Rattle.sale.specs.Lists.{sum};
+ghost use Rattle.sale.specs.Kinds.{number_of};
 ghost use Rattle.prizes.specs.Bounds.{Sharing};
 ghost use Rattle.prizes.specs.Jackpots.{share_of, odd_cents, shares_from, jackpot_shares};
 ghost use Rattle.settlement.specs.Passing.{full_of};
@@ -10,6 +11,7 @@ ghost use Rattle.settlement.specs.Sharing.{Shareable};
 use crate::ways::TicketWays;
 use house::rows::read_row;
 use prizes::jackpot::ticket_share;
+use sale::terms::JackpotKind;
 
 // A ticket's winning ways, and the stake of each.
 #[derive(Clone, Copy)]
@@ -23,10 +25,10 @@ pub(crate) struct WinningWays {
 pub(crate) struct Primary<'a> {
     pub(crate) rows: &'a [u64; 3200],
     pub(crate) ways: &'a [TicketWays],
-    pub(crate) jackpot: u64,
+    pub(crate) jackpot: JackpotKind,
     pub(crate) cents: u64,
     pub(crate) stakes: u64,
-    ghost shared: { Shareable rows.now (full_of ways.now) jackpot (length ways.now) cents stakes },
+    ghost shared: { Shareable rows.now (full_of ways.now) (number_of jackpot) (length ways.now) cents stakes },
 }
 
 impl Primary<'_> {
@@ -39,8 +41,8 @@ impl Primary<'_> {
         ensures stake { result.stake ≡ (sharer_at self.now i).stake }
     {
         let row = read_row(self.rows, i);
-        let count = if row.jackpot == self.jackpot {
-            self.ways[i].full
+        let count = if row.jackpot == u64::from(self.jackpot) {
+            self.ways[i].found.full
         } else {
             0
         };
@@ -50,7 +52,8 @@ impl Primary<'_> {
         }
     }
 
-    // What winning ways get, with those of the odd cents that are left for them.
+    // What winning ways get, with those of the odd cents that are left for them. `Sharing` bounds the stake, so that `as` loses nothing: `try_from` would add
+    // an error that cannot be.
     fn share(&self, ways: WinningWays, odd: u64) -> u64
         requires { Sharing self.now.cents self.now.stakes ways.count ways.stake }
         ensures { result ≡ ways.count * share_of self.now.cents self.now.stakes ways.stake + min odd ways.count }
@@ -66,10 +69,9 @@ impl Primary<'_> {
         requires won { 0 < self.now.stakes }
         ensures { result ≡ odd_cents self.now.cents self.now.stakes (sharers self.now) }
     {
-        let mut shared = 0;
-        for i in 0..self.ways.len() {
-            shared += self.share(self.winning_ways(i), 0);
-        }
+        let shared: u64 = (0..self.ways.len())
+            .map(|i| self.share(self.winning_ways(i), 0))
+            .sum();
         self.cents - shared
     }
 

@@ -22,7 +22,9 @@ pub struct Settlement {
     pub eight: Part,
 }
 
-// Of a game with the jackpots before it. Fills the first places of both tables, one for each live ticket.
+// Of a game with the jackpots before it, which are two parameters as they are two fields of the house, which C lays out. Fills the first places of both
+// tables, one for each live ticket. The functions that they are lent to each ask for the slices' lengths and for room in what is paid: a slice carries its length but no
+// fact about it, the host lends any words, and a struct of the two `&mut` would have to say of each that it is the one handed in.
 fn settle_drawn(
     game: &DrawnGame,
     before_six: Jackpot,

@@ -47,12 +47,6 @@ book_part k book room =
     let count : length (take (k * 14) book) / 14 ≡ k = omega (arith, length-take-le (k * 14) book room) in
     rw count (part_lines k book)
 
--- the rest of a book after one record more
-pub rest_more : (i : ℕ) (book rest : List ℕ) → rest ≡ drop (i * 14) book → drop 14 rest ≡ drop ((i + 1) * 14) book
-rest_more i book rest left =
-    let further : i * 14 + 14 ≡ (i + 1) * 14 = omega arith in
-    ap (λ l. drop 14 l) left ∙ drop-drop 14 (i * 14) book ∙ ap (λ k. drop k book) further
-
 one_more : (i : ℕ) (book : List ℕ) → book_lines (suc i) book ≡ book_lines i book ++ record_line (drop (i * 14) book)
 unfolding book_lines
 one_more zero book = append-nil (record_line book)
@@ -63,6 +57,6 @@ one_more (suc i) book =
     ∙ ap (λ l. book_lines (suc i) book ++ record_line l) (drop-drop (i * 14) 14 book ∙ ap (λ k. drop k book) further)
 
 -- the lines of one record more
-pub book_more : (i : ℕ) (book rest : List ℕ) → rest ≡ drop (i * 14) book → book_lines i book ++ record_line (take 14 rest) ≡ book_lines (i + 1) book
-book_more i book rest left =
-    ap (λ l. book_lines i book ++ l) (record_part rest ∙ ap record_line left) ∙ sym (one_more i book) ∙ ap (λ k. book_lines k book) (sym (add-one i))
+pub book_more : (i : ℕ) (book : List ℕ) → book_lines i book ++ record_line (take 14 (drop (i * 14) book)) ≡ book_lines (i + 1) book
+book_more i book =
+    ap (λ l. book_lines i book ++ l) (record_part (drop (i * 14) book)) ∙ sym (one_more i book) ∙ ap (λ k. book_lines k book) (sym (add-one i))

@@ -5,7 +5,7 @@ ghost use Rattle.text.specs.Lines.{stop_line, till_line, spaced, signed};
 use queries::till::Till;
 use std::fmt;
 
-// The line of a stop code.
+// The line of a stop code: a number, as the report has it for C.
 #[derive(Clone, Copy)]
 pub struct StopLine(pub u8);
 

@@ -5,7 +5,7 @@ ghost use Rattle.text.specs.Lines.{answer_line, record_line, book_lines};
 use numbers::bytes::read_number;
 use std::fmt;
 
-// The line of an answer: command byte, code, number and cents.
+// The line of an answer: command byte, code, number and cents, as they stand in the book.
 #[derive(Clone, Copy)]
 struct AnswerLine {
     byte: u8,
@@ -14,6 +14,7 @@ struct AnswerLine {
     cents: u64,
 }
 
+// The cast loses nothing: by the contract of `read_number` a number of 4 bytes fits, and one function's type cannot depend on how many bytes it reads.
 impl From<&[u8; 14]> for AnswerLine {
     ghost from_gives = { λ part line. answer_line line.byte line.code line.number line.cents ≡ record_line part.now };
 
@@ -49,10 +50,9 @@ impl fmt::Display for BookLines<'_> {
     ghost output = { λ b. Some (book_lines (length b.0.now / 14) b.0.now) };
 
     fn fmt<W: fmt::Write>(&self, f: &mut fmt::Formatter<W>) -> fmt::Result {
-        let mut rest = self.0;
-        while let Some((part, more)) = rest.split_first_chunk::<14>() {
+        let (parts, _) = self.0.as_chunks::<14>();
+        for part in parts {
             write!(f, "{}", AnswerLine::from(part))?;
-            rest = more;
         }
         Ok(())
     }

@@ -86,16 +86,14 @@ found_in found marks = ticket_from found.row (marks_at marks found.place)
 
 -- the row read at a live number's place is its ticket's
 pub live_ticket :
-    (h : House) (words marks : List ℕ) (n k p : ℕ) (w : Row)
+    (h : House) (words marks : List ℕ) (n p : ℕ) (w : Row)
     → ComesWith h words
-    → k ≡ n
-    → p ≡ place_of k (take h.live (tickets_of words marks))
+    → p ≡ place_of n (take h.live (tickets_of words marks))
     → p < h.live
     → w ≡ row_at words p
     → ticket_from w (marks_at marks p) ≡ ticket_at n (view h words marks).live
-live_ticket h words marks n k p w comes same here within read =
-    let placed : p ≡ place_of n (view h words marks).live =
-    here ∙ ap (λ k. place_of k (take h.live (tickets_of words marks))) same ∙ sym (row_place h words marks n comes) in
+live_ticket h words marks n p w comes here within read =
+    let placed : p ≡ place_of n (view h words marks).live = here ∙ sym (row_place h words marks n comes) in
     ap (λ w. ticket_from w (marks_at marks p)) read
     ∙ ap (ticket_in words marks) placed
     ∙ sym (view_ticket h words marks n (subst (λ i. i < h.live) placed within))

@@ -11,10 +11,12 @@ use Rattle.std.specs.Prelude.{Option, None, Some}
 use Rattle.refusals.specs.Refusal.{refusal_number}
 use Rattle.refusals.specs.declared.refusal.Refusal.{Refusal}
 use Rattle.sale.specs.Lists.{every}
+use Rattle.sale.specs.Kinds.{jackpot_by, jackpot_number}
+use Rattle.sale.specs.Ways.{sizes}
 use Rattle.sale.specs.Checks.{Operands, has_feature, feature_stake, first_met, operand_rows, operand_code, charge_of, accepted_quote}
 use Rattle.sale.specs.declared.check.Quote.{Quote}
-use Rattle.sale.proofs.CheckLaws.{stage_err, stage_ok}
-use Rattle.house.specs.Tickets.{Ticket}
+use Rattle.sale.proofs.CheckLaws.{stage_err, stage_ok, jackpot_back}
+use Rattle.house.specs.Tickets.{Ticket, terms_of}
 use Rattle.house.specs.Model.{Model, game_limit, live_limit, ticket_limit, is_drawing, next_game, with_taken}
 use Rattle.house.specs.Commands.{sell, rows_of, code_of, sold_ticket, sold}
 use Rattle.house.specs.View.{feature_from, tickets_of, view}
@@ -99,21 +101,24 @@ sold_house h charge =
 
 module _ (h : House) (words marks : List ℕ) (o : Operands) where
   pub ticket_sold :
-      (first : ℕ) (q : Quote) (feature : Option ℕ)
+      (first : ℕ) (q : Quote) (jackpot : ℕ) (feature : Option ℕ)
       → first ≡ next_game (view h words marks)
       → q ≡ accepted_quote o
+      → jackpot ≡ jackpot_number q.jackpot
       → feature ≡ o.feature
       → ◌≡◌ {A = Ticket}
-      (record { number = h.issued + 1; operands = with_feature o feature; ways = q.ways; jackpot = q.jackpot; sizes = q.sizes; sold_day = h.day; first = first; stop = first + o.games; free = first + q.paid; due = 0; finished_day = 0 })
+      (record { number = h.issued + 1; operands = with_feature o feature; ways = q.ways; jackpot = jackpot; sizes = q.sizes; sold_day = h.day; first = first; stop = first + o.games; free = first + q.paid; due = 0; finished_day = 0 })
       (sold_ticket (view h words marks) o)
   unfolding view
-  ticket_sold first q feature began quoted entered =
+  ticket_sold first q jackpot feature began quoted kept entered =
+      let played : jackpot ≡ jackpot_by (terms_of o) (sizes o.marks) =
+      kept ∙ ap (λ (q : Quote). jackpot_number q.jackpot) quoted ∙ jackpot_back (terms_of o) (sizes o.marks) in
       λ x.
       record {
         number = h.issued + 1;
         operands = with_feature o (entered x);
         ways = (quoted x).ways;
-        jackpot = (quoted x).jackpot;
+        jackpot = played x;
         sizes = (quoted x).sizes;
         sold_day = h.day;
         first = began x;

@@ -12,7 +12,6 @@ use crate::lookup::look_up;
 use house::answer::Receipt;
 use house::rows::{Row, remove_ticket};
 use house::state::House;
-use house::ticket::is_finished;
 use refusals::refusal::Refusal;
 
 // Whether a live ticket can be claimed where the given game is the current one.
@@ -20,7 +19,7 @@ use refusals::refusal::Refusal;
 fn check_claim(game: u64, row: Row) -> Result<(), Refusal>
     ensures { (marks : List ℕ) → code_in result ≡ first_met (claim_rows game (ticket_from row marks)) }
 {
-    if !is_finished(game, row) {
+    if !row.is_finished(game) {
         return Err(Refusal::NotFinished);
     }
     if row.due == 0 {
@@ -39,7 +38,7 @@ pub fn claim_ticket(
     requires { Reached (view house.old rows.old marks.old) }
     ensures { Carried house.old rows.old marks.old (claim ticket) house.new rows.new marks.new (host_answer result) }
 {
-    let found = look_up(*house, rows, ticket)?;
+    let found = look_up(house, rows, ticket)?;
     let row = found.row;
     check_claim(house.game, row)?;
     remove_ticket(rows, marks, house.live as usize, found.place);

@@ -11,7 +11,6 @@ use calendar::expiry::expiry_bound;
 use house::answer::Receipt;
 use house::rows::{move_ticket, read_row};
 use house::state::House;
-use house::ticket::is_expired;
 use refusals::refusal::Refusal;
 
 // How many tickets stay, and the dues of the others.
@@ -21,19 +20,20 @@ struct Sweep {
     cents: u64,
 }
 
-// The live tickets without those that have expired: the others move down.
-fn drop_expired(house: House, rows: &mut [u64; 3200], marks: &mut [u8; 16000]) -> Sweep
-    requires live_bound { (house.live ≤ 200) × (sum (map (λ t. t.due) (view house rows.old marks.old).live) < 2 ^ 62) }
-    requires days { (i : ℕ) → i < house.live → DayTells house.game (ticket_in rows.old marks.old i) }
-    ensures { Swept (view house rows.old marks.old) rows.new marks.new result.left result.cents }
+// The live tickets without those that have expired: the others move down. By places, since rows that move under the loop can be lent to no iterator.
+fn drop_expired(house: &House, rows: &mut [u64; 3200], marks: &mut [u8; 16000]) -> Sweep
+    requires live_bound { (house.now.live ≤ 200) × (sum (map (λ t. t.due) (view house.now rows.old marks.old).live) < 2 ^ 62) }
+    requires days { (i : ℕ) → i < house.now.live → DayTells house.now.game (ticket_in rows.old marks.old i) }
+    ensures { Swept (view house.now rows.old marks.old) rows.new marks.new result.left result.cents }
 {
     let bound = expiry_bound(house.day);
     let live = house.live as usize;
     let mut left = 0;
     let mut cents = 0;
     for i in 0..live {
-        if is_expired(rows, i, bound) {
-            cents += read_row(rows, i).due;
+        let row = read_row(rows, i);
+        if row.is_expired(bound) {
+            cents += row.due;
         } else {
             move_ticket(rows, marks, i, left);
             left += 1;
@@ -42,7 +42,7 @@ fn drop_expired(house: House, rows: &mut [u64; 3200], marks: &mut [u8; 16000]) -
     Sweep { left, cents }
 }
 
-// How many live tickets expire, and their dues, which go to the unclaimed fund.
+// How many live tickets expire, and their dues, which go to the unclaimed fund. `as` loses nothing: at most 200 expire.
 pub fn expire_tickets(
     house: &mut House,
     rows: &mut [u64; 3200],
@@ -54,7 +54,7 @@ pub fn expire_tickets(
     if house.day == 0 {
         return Err(Refusal::NotOpen);
     }
-    let sweep = drop_expired(*house, rows, marks);
+    let sweep = drop_expired(house, rows, marks);
     let left = sweep.left as u64;
     let gone = house.live - left;
     house.live = left;

@@ -18,9 +18,9 @@ use sale::terms::Sale;
 
 // Whether there is room for one ticket more, of so many games.
 #[tactic(auto, using(crate::proofs::SellLaws::room_full, crate::proofs::SellLaws::room_numbers, crate::proofs::SellLaws::room_games, crate::proofs::SellLaws::room_left))]
-fn check_room(house: House, games: u8) -> Result<(), Refusal>
-    requires { InGames house }
-    ensures { (words marks : List ℕ) → code_in result ≡ first_met (room_rows (view house words marks) games) }
+fn check_room(house: &House, games: u8) -> Result<(), Refusal>
+    requires { InGames house.now }
+    ensures { (words marks : List ℕ) → code_in result ≡ first_met (room_rows (view house.now words marks) games) }
 {
     if House::LIVE_LIMIT <= house.live {
         return Err(Refusal::LiveLimit);
@@ -32,10 +32,10 @@ fn check_room(house: House, games: u8) -> Result<(), Refusal>
     Ok(())
 }
 
-// The row of a new ticket, from the quote of its operands.
-fn sold_row(house: House, sale: Sale, quote: Quote) -> Row
-    requires { InGames house × (house.issued ≤ ticket_limit) }
-    ensures { (words marks from : List ℕ) → Quoted quote (operands_of sale from) → ticket_from result from ≡ sold_ticket (view house words marks) (operands_of sale from) }
+// The row of a new ticket, from the quote of its operands. A row keeps words, since C lays it out: one that plays for no jackpot keeps 0.
+fn sold_row(house: &House, sale: Sale, quote: Quote) -> Row
+    requires { InGames house.now × (house.now.issued ≤ ticket_limit) }
+    ensures { (words marks from : List ℕ) → Quoted quote (operands_of sale from) → ticket_from result from ≡ sold_ticket (view house.now words marks) (operands_of sale from) }
 {
     let first = house.first_game();
     Row {
@@ -46,7 +46,7 @@ fn sold_row(house: House, sale: Sale, quote: Quote) -> Row
         groups: u64::from(sale.groups),
         types: u64::from(sale.types),
         ways: u64::from(quote.ways),
-        jackpot: u64::from(quote.jackpot),
+        jackpot: quote.jackpot.map_or(0, u64::from),
         sold: house.day,
         first,
         stop: first + u64::from(sale.games),
@@ -58,7 +58,7 @@ fn sold_row(house: House, sale: Sale, quote: Quote) -> Row
     }
 }
 
-// A ticket for its first game and those after it, numbered by the sales so far, for which the charge is taken.
+// A ticket for its first game and those after it, numbered by the sales so far, for which the charge is taken. `as` loses nothing: at most 9,999,999 are issued.
 pub fn sell_ticket(
     house: &mut House,
     rows: &mut [u64; 3200],
@@ -73,8 +73,8 @@ pub fn sell_ticket(
         return Err(Refusal::NotOpen);
     }
     let quote = quote_for(sale, from)?;
-    check_room(*house, sale.games)?;
-    let row = sold_row(*house, sale, quote);
+    check_room(house, sale.games)?;
+    let row = sold_row(house, sale, quote);
     append_ticket(rows, marks, house.live as usize, row, from);
     let cents = u64::from(quote.charge);
     house.issued += 1;

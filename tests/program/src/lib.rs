@@ -21,7 +21,9 @@ pub fn run_ledger_in_pieces(input: &[u8], piece: usize) -> String {
         .stdout(Stdio::piped())
         .stderr(Stdio::piped())
         .spawn()
-        .unwrap_or_else(|error| panic!("{}: {error}: run `rt run` in crates/ledger", program.display()));
+        .unwrap_or_else(|error| {
+            panic!("{}: {error}: run `rt run` in crates/ledger", program.display())
+        });
     let stdin = process.stdin.take().expect("its input is ours");
     // Pipes hold little: whoever writes all the input before reading any output
     // may wait for a program that waits for him.

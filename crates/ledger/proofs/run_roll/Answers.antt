@@ -30,12 +30,13 @@ loop-house-preserved g c =
     let after = c.read_on-report.new in
     let lines = book_lines report.answers after.book in
     let wrote = subst (Appends (g.W.Write.contents l.output) (g.W.Write.contents c.print.new.output)) (book_part report.answers after.book (omega arith)) c.in_ok-print.ensures in
-    let next = text_on l.house l.rows l.marks l.rest.now l.book report after.rows after.marks after.book read.reported books (omega (arith, more)) c.if-not-is_full.false in (
+    let full = c.if-not-is_full.false ∙ c.from.ensures in
+    let next = text_on l.house l.rows l.marks l.rest.now l.book report after.rows after.marks after.book read.reported books (omega (arith, more)) full in (
       read.reads_on.reached,
       text ++ lines,
       books - 1,
       Appends-trans _ _ _ _ _ grew wrote,
-      omega (arith, more, read.reads_on.shorter c.if-not-is_full.false, ap length c.unread-rest.ensures),
+      omega (arith, more, read.reads_on.shorter full, ap length c.unread-rest.ensures),
       rw c.unread-rest.ensures (append_assoc text lines _ ∙ ap (λ s. text ++ s) (sym next) ∙ whole),
     )
 
@@ -48,7 +49,7 @@ returns-then-not-is_full g c =
     let after = c.read_on-report.new in
     let lines = book_lines report.answers after.book in
     let wrote = subst (Appends (g.W.Write.contents l.output) (g.W.Write.contents c.print.new.output)) (book_part report.answers after.book (omega arith)) c.in_ok-print.ensures in
-    let last = text_end l.house l.rows l.marks l.rest.now l.book report after.rows after.marks after.book read.reported books (omega (arith, more)) c.if-not-is_full.true in
+    let last = text_end l.house l.rows l.marks l.rest.now l.book report after.rows after.marks after.book read.reported books (omega (arith, more)) (λ full. c.if-not-is_full.true (full ∙ sym c.from.ensures)) in
     let all =
     append_assoc text lines _
     ∙ ap (λ t. text ++ (lines ++ (stop_line report.stop ++ till_line t))) (c.till_of.ensures after.marks)

@@ -23,7 +23,8 @@ fn game(first: &str) -> String {
         )
     };
     let loads = (0..table().len() / PIECE).map(load).collect::<String>();
-    let call = format!(" 100:\tcall   105 <game+0x105>\t101: R_X86_64_PLT32\t.text.{WALK}-0x4\n");
+    let call =
+        format!(" 100:\tcall   105 <game+0x105>\t101: R_X86_64_PLT32\t.text.{WALK}::<#1>-0x4\n");
     format!("0000 <game>:\n{loads}{call} 108:\tjne    {first} <game+0x{first}>\n")
 }
 
@@ -32,7 +33,7 @@ fn object(first: &str, walk: &str) -> Object {
     let table = table();
     let (whole, rest) = table.split_at(table.len() / PIECE * PIECE);
     let listing =
-        format!("{}0000 <{WALK}>:\n   0:\tsub    $0x8,%rsp\n{walk}   9:\tret\n", game(first));
+        format!("{}0000 <{WALK}::<#1>>:\n   0:\timul   %rsi,%rax\n{walk}   9:\tret\n", game(first));
     Object {
         sections: vec![section(CONSTANTS, whole.to_vec()), section(".text.game", rest.to_vec())],
         symbols: Default::default(),

@@ -4,8 +4,9 @@
 use crate::object::{Function, Instruction, Object, Place};
 use reference::schedule::{special_one, special_two, standard};
 
-/// The recursion over a ticket's ways, in which every prize is looked up.
-pub const WALK: &str = "prizes::found::find_from";
+/// The recursion over a ticket's ways. It is generic: what follows this in a name in the
+/// library says what the ways are noted in.
+pub const WALK: &str = "sale::walk::note_from";
 
 /// The compiler keeps an array in pieces of so many bytes.
 pub const PIECE: usize = 16;
@@ -60,7 +61,19 @@ pub fn wrong_table(object: &Object) -> Option<String> {
 }
 
 fn of_the_rule_book(object: &Object) -> impl Iterator<Item = &Function> {
-    object.functions.iter().filter(|function| function.name.starts_with("prizes::"))
+    let of_it = |function: &&Function| {
+        ["prizes::", WALK].iter().any(|start| function.name.starts_with(start))
+    };
+    object.functions.iter().filter(of_it)
+}
+
+/// The walk in which every prize is looked up, and not that of a sale: a prize is dollars
+/// times a stake, and a sale's look at its ways multiplies nothing.
+fn walk_of_a_game(object: &Object) -> Option<&Function> {
+    let multiplies =
+        |one: &Instruction| ["imul", "mul"].iter().any(|name| one.text.starts_with(name));
+    let mut walks = object.functions.iter().filter(|function| function.name.starts_with(WALK));
+    walks.find(|function| function.code.iter().any(multiplies))
 }
 
 /// A `match` on selection and match becomes tables that are named for a function of
@@ -68,7 +81,7 @@ fn of_the_rule_book(object: &Object) -> impl Iterator<Item = &Function> {
 pub fn left_of_a_match(object: &Object) -> Option<String> {
     let names = object.read_only().map(|section| &section.name).chain(object.symbols.keys());
     let mut names = names.filter(|name| name.starts_with(".rodata") || name.starts_with(".L"));
-    let table = names.find(|name| name.contains("prizes::")).cloned();
+    let table = names.find(|name| name.contains("prizes::") || name.contains(WALK)).cloned();
     let looked_up = |one: &&Instruction| one.text.starts_with("jmp") && one.text.contains('*');
     let jump = |function: &Function| Some(told(function.code.iter().find(looked_up)?, function));
     table.or_else(|| of_the_rule_book(object).find_map(jump))
@@ -87,8 +100,8 @@ pub fn copied_at_a_look_up(object: &Object) -> Option<String> {
         let room = frame as usize >= table().len();
         copy.or_else(|| room.then(|| format!("{frame} bytes of stack in {}", function.name)))
     };
-    if !of_the_rule_book(object).any(|function| function.name == WALK) {
-        return Some(format!("no {WALK}"));
+    if walk_of_a_game(object).is_none() {
+        return Some(format!("no {WALK} with prizes"));
     }
     of_the_rule_book(object).find_map(copied)
 }
@@ -111,8 +124,12 @@ pub fn copied_in_a_loop(object: &Object) -> Option<String> {
     if loaded != pieces.len() || here.len() != loaded {
         return Some(format!("{loaded} loads, {} of them in {}", here.len(), function.name));
     }
-    let walks =
-        |one: &&Instruction| one.refers.as_ref().is_some_and(|(name, _)| name.ends_with(WALK));
+    let Some(walk) = walk_of_a_game(object) else {
+        return Some(format!("no {WALK} with prizes"));
+    };
+    let walks = |one: &&Instruction| {
+        one.refers.as_ref().is_some_and(|(name, _)| name.ends_with(&walk.name))
+    };
     let around = |call: &Instruction| function.loop_around(call.address);
     match function.code.iter().filter(walks).map(around).collect::<Vec<_>>()[..] {
         [Some((first, last))] => {

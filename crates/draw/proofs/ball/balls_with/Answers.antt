@@ -7,4 +7,4 @@ use Rattle.draw.proofs.ball.balls_with.Goals as goal
 pub returns-clause-balls : goal.returns-clause-balls
 unfolding view
 returns-clause-balls c words marks =
-    balls_more c.args.house.balls c.args.house.drawn c.args.number (omega arith)
+    balls_more c.args.house.now.balls c.args.house.now.drawn c.args.number (omega arith)

@@ -77,8 +77,8 @@ returns-then-closes-clause-stay c =
     closes args.rows.now args.marks.now args.i args.left c.requires.0 c.requires.1 args.payment.day args.payment.game args.payment.cents
     c.read_row-row.result c.closes.result c.read_row-row.ensures c.closes.ensures c.if-closes.true
 
-pub returns-then-is_nothing-clause-stay : goal.returns-then-is_nothing-clause-stay
-returns-then-is_nothing-clause-stay c =
+pub returns-then-changes_nothing-clause-stay : goal.returns-then-changes_nothing-clause-stay
+returns-then-changes_nothing-clause-stay c =
     let args = c.args in
     let words = c.move_ticket.new.rows in
     let marks = c.move_ticket.new.marks in
@@ -88,7 +88,7 @@ returns-then-is_nothing-clause-stay c =
     c.move_ticket.ensures c.read_row-moved.ensures in
     ap (take (args.left + 1))
     (same_stays args.rows.now args.marks.now args.i args.left c.requires.0 c.requires.1 args.payment.day args.payment.game args.payment.cents words marks
-    (ticket_from c.read_row-moved.result own) c.move_ticket.ensures here (c.is_nothing.ensures c.if-is_nothing.true own))
+    (ticket_from c.read_row-moved.result own) c.move_ticket.ensures here (c.changes_nothing.ensures c.if-changes_nothing.true own))
     ∙ stays args.rows.now args.marks.now args.i args.left c.requires.0 c.requires.1 args.payment.day args.payment.game args.payment.cents
     c.read_row-row.result c.closes.result c.read_row-row.ensures c.closes.ensures c.if-closes.false
 

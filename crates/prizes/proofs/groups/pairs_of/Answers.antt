@@ -1,8 +1,19 @@
 -- `pairs_of` meets its contract: the bytes of both words stand at their places.
-use Rattle.prizes.proofs.HitLaws.{pairs_at}
+use mathlib.Core.Path.{ap, ◌∙◌}
+use mathlib.Core.List.{List, ◌∷◌}
+use Prim.Native.Nat.{ℕ}
+use Rattle.std.proofs.lemmas.List.{append-nil}
+use Rattle.prizes.proofs.HitLaws.{pairs_more, pairs_all}
 use Rattle.prizes.proofs.groups.pairs_of.Goals as goal
+
+pub loop-k-preserved : goal.loop-k-preserved
+loop-k-preserved c =
+    let turn = c.loop-k in
+    pairs_more c.args.sizes c.args.hits turn.pair-items turn.k c.to_le_bytes-size.ensures c.to_le_bytes-hit.ensures turn.auto.pair-items c.loop-k-test.true
+    turn.invariant c.pair_of.ensures
 
 pub returns : goal.returns
 returns c =
-    pairs_at c.args.sizes c.args.hits c.to_le_bytes-size.ensures c.to_le_bytes-hit.ensures c.pair_of.ensures c.pair_of-2.ensures c.pair_of-3.ensures c.pair_of-4.ensures
-    c.pair_of-5.ensures c.pair_of-6.ensures c.pair_of-7.ensures c.pair_of-8.ensures
+    let turn = c.loop-k in
+    ap (λ (l : List ℕ). 0 ∷ l) (append-nil turn.pair-items)
+    ∙ pairs_all c.args.sizes c.args.hits turn.pair-items turn.k turn.auto.pair-items c.loop-k-test.false turn.invariant

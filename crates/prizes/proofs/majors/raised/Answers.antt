@@ -1,48 +1,39 @@
--- `majors::raised` meets its contract: the sum so far is that of the prizes passed.
-use mathlib.Core.Path.{refl, sym}
-use mathlib.Core.List.{List, map}
-use Prim.Native.Nat.{ℕ, ◌*◌, ◌-◌, ◌≤◌}
-use native.Mathlib.Nat.{mul-le-mul_right}
-use native.Mathlib.Omega.{arith}
-use Rattle.sale.specs.Lists.{sum}
+-- `majors::raised` meets its contract: each prize that its closure is given is one of the list, which is paid the floor at the least, and the iterator's
+-- sum is that of the list.
+use mathlib.Core.Path.{◌≡◌, sym, ◌∙◌, subst}
+use mathlib.Core.List.{List, Memᴰ}
+use Prim.Native.Nat.{ℕ, ◌-◌, ◌≤◌, ◌<◌, ◌^◌}
+use lib.ListN.{length, get_or}
+use Rattle.std.proofs.Common.{rules}
+use Rattle.std.proofs.lemmas.Iterator.{YieldsList-from_slice, YieldsList-from_map}
+use Rattle.std.proofs.lemmas.Iterator.Adapters.{serves_from_places}
+use Rattle.std.proofs.lemmas.Iterator.Consumers.{sum_by_from_yields_List, fits_by_from_yields_list}
 use Rattle.prizes.specs.Prize.{major_floor}
-use Rattle.prizes.specs.Cut.{majors_limit}
-use Rattle.prizes.specs.Rounds.{pay_under, AllRaised}
-use Rattle.prizes.specs.declared.cut.Cut.{Cut}
-use Rattle.sale.proofs.KeepLaws.{sum_within}
-use Rattle.prizes.proofs.MajorLaws.{member_at, sum_more, sum_more_le}
+use Rattle.prizes.specs.Rounds.{pay_under}
+use Rattle.prizes.proofs.MajorLaws.{member_at, sum_raised, raised_fits}
 use Rattle.prizes.proofs.majors.raised.Goals as goal
 
-abbrev raise : Cut → ℕ → ℕ
-raise cut p = pay_under cut p - major_floor
+member_of : {xs : List ℕ} {x k : ℕ} → k < length xs → x ≡ get_or xs k x → Memᴰ x xs
+member_of {xs} {x} {k} inside same = subst (λ p. Memᴰ p xs) (sym same) (member_at xs k x inside)
 
-whole_small : (cut : Cut) (ps : List ℕ) → AllRaised cut ps → sum (map (λ p. pay_under cut p - major_floor) ps) ≤ 250 * majors_limit
-whole_small cut ps r =
-    omega (arith, sum_within (raise cut) majors_limit ps (λ p m. omega (arith, r.most p m)), mul-le-mul_right majors_limit r.few)
+pub sum-requires-clause-can : goal.sum-requires-clause-can
+sum-requires-clause-can c = (
+  tt,
+  serves_from_places (YieldsList-from_slice c.args.prizes.now cc) (λ x q r. search rules)
+      (λ x k inside same.
+      let m = member_of inside same in
+      let floor : major_floor ≤ pay_under c.args.cut x.now = c.requires.least _ m in
+      (λ _ _ _ _ _ _ _. record { small = c.requires.small _ m }, λ _ _ _ _ _ _ payout. search (rules, floor))),
+)
 
-pub loop-prize-init : goal.loop-prize-init
-unfolding sum
-loop-prize-init c = refl
+pub sum-requires-clause-fits : goal.sum-requires-clause-fits
+sum-requires-clause-fits c =
+    fits_by_from_yields_list (λ p. pay_under c.args.cut p - major_floor) c.args.prizes.now _ (2 ^ 64)
+    (YieldsList-from_map _ _ (YieldsList-from_slice c.args.prizes.now cc) c.map.ensures.closure (λ x r q k. search rules))
+    (raised_fits c.requires)
 
-pub payout-requires : goal.payout-requires
-payout-requires c = record { small = c.requires.small _ (member_at c.args.prizes.now c.loop-prize.prize-index c.loop-prize-test.true) }
-
-pub overflow_sub-total : goal.overflow_sub-total
-overflow_sub-total c =
-    rw c.payout.ensures (c.requires.least _ (member_at c.args.prizes.now c.loop-prize.prize-index c.loop-prize-test.true))
-
-pub overflow_add-total : goal.overflow_add-total
-overflow_add-total c =
-    let ps = c.args.prizes.now in
-    omega (
-      arith,
-      c.payout.ensures,
-      c.loop-prize.invariant,
-      sum_more_le (raise c.args.cut) ps c.loop-prize.prize-index c.loop-prize-test.true,
-      whole_small c.args.cut ps c.requires,
-    )
-
-pub loop-prize-preserved : goal.loop-prize-preserved
-loop-prize-preserved c =
-    rw (c.payout.ensures, c.loop-prize.invariant)
-    (sym (sum_more (raise c.args.cut) c.args.prizes.now c.loop-prize.prize-index c.loop-prize-test.true))
+pub returns : goal.returns
+returns c =
+    sum_by_from_yields_List (λ p. pay_under c.args.cut p - major_floor) c.args.prizes.now _ _ c.sum.ensures.ran
+    (YieldsList-from_map _ _ (YieldsList-from_slice c.args.prizes.now cc) c.map.ensures.closure (λ x r q k. search rules))
+    ∙ sym (sum_raised c.args.cut c.args.prizes.now)

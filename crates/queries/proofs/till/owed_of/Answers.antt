@@ -1,17 +1,29 @@
 -- `queries::till::owed_of` meets its contract: the whole of what is due fits.
-use Rattle.std.proofs.Common.{arith, sym, ◌∙◌}
-use Rattle.queries.proofs.TillLaws.{due_at, owed_rows, owed_fits, rows_few}
+use Rattle.std.proofs.Common.{rules, arith, refl, sym, ◌∙◌, ◌<◌, ◌^◌, map}
+use Rattle.std.specs.List.{range_with_len, sum}
+use Rattle.std.proofs.lemmas.Iterator.{YieldsList-from_map, YieldsList-from_range, serves_from_Range}
+use Rattle.std.proofs.lemmas.Iterator.Consumers.{YieldsList-at, fits_from_yields_list, sum_from_yields_List}
+use Rattle.queries.proofs.TillLaws.{due_at, owed_rows, owed_fits, range_total, rows_few}
 use Rattle.queries.proofs.till.owed_of.Goals as goal
 
-pub total_of-requires : goal.total_of-requires
-total_of-requires c =
-    let house = c.args.house in
-    let rows = c.args.rows.now in
-    record {
-      asked = λ i b. record { within = omega (arith, rows_few house rows c.requires) };
-      fits = (due_at rows, λ i figure b e. e, owed_fits house rows c.requires house.live (omega arith));
-    }
+pub sum-requires-clause-can : goal.sum-requires-clause-can
+sum-requires-clause-can c =
+    (search rules, serves_from_Range (λ x q called. search rules) (λ x low high. search (rules, rows_few c.args.house.now c.args.rows.now c.requires)))
+
+pub sum-requires-clause-fits : goal.sum-requires-clause-fits
+sum-requires-clause-fits c =
+    let live = c.args.house.now.live in
+    let due = due_at c.args.rows.now in
+    let fits : sum (map due (range_with_len 0 live)) < 2 ^ 64 = omega (arith, range_total due live, owed_fits c.args.house.now c.args.rows.now c.requires) in
+    fits_from_yields_list c.map.result (2 ^ 64)
+    (YieldsList-from_map _ due (YieldsList-at c.map.ensures.source (YieldsList-from_range 0 live live refl (omega arith))) c.map.ensures.closure (λ x r q k. search rules))
+    fits
 
 pub returns : goal.returns
 returns c = λ marks.
-    c.total_of.ensures (due_at c.args.rows.now) (λ i figure b e. e) ∙ sym (owed_rows c.args.house c.args.rows.now marks)
+    let live = c.args.house.now.live in
+    let due = due_at c.args.rows.now in
+    sum_from_yields_List c.map.result c.sum.result c.sum.ensures.ran
+    (YieldsList-from_map _ due (YieldsList-at c.map.ensures.source (YieldsList-from_range 0 live live refl (omega arith))) c.map.ensures.closure (λ x r q k. search rules))
+    ∙ range_total due live
+    ∙ sym (owed_rows c.args.house.now c.args.rows.now marks)

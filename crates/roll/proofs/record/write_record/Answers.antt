@@ -10,6 +10,6 @@ pub returns : goal.returns
 returns c =
     let args = c.args in
     let after = c.write_number.new.buffer in
-    record_written args.book.now args.byte args.code args.number args.cents after c.write_number-2.new.buffer
+    record_written args.book.now args.byte args.answer after c.write_number-2.new.buffer
     c.requires c.write_number.ensures
     (c.write_number-2.ensures ∙ ap (λ n. take 2 after ++ bytes_of 4 n ++ drop 6 after) c.from.ensures)

@@ -11,9 +11,9 @@ use Rattle.std.specs.List as List_std
 use Rattle.prizes.specs.Jackpots.{winning_stake}
 use Rattle.house.specs.Tickets.{runs_in, paid_stakes}
 use Rattle.house.specs.declared.rows.Row.{Row}
-use Rattle.settlement.specs.Kinds.{number_of}
-use Rattle.settlement.specs.declared.jackpot_kind.JackpotKind.{JackpotKind}
-use Rattle.settlement.specs.declared.jackpot_kind.JackpotKind.TheVariants.{Six, Eight}
+use Rattle.sale.specs.Kinds.{number_of}
+use Rattle.sale.specs.declared.terms.JackpotKind.{JackpotKind}
+use Rattle.sale.specs.declared.terms.JackpotKind.TheVariants.{Six, Eight}
 use Rattle.settlement.specs.declared.figures.Stakes.{Stakes}
 use lib.ListN.{length, get_or}
 use Rattle.prizes.proofs.MajorLaws.{sum_std}
@@ -50,7 +50,7 @@ module _ (g : DrawnGame) (ways : List TicketWays) (matches : Matched g ways) (i 
   paid : own ≡ paid_at g.rows.now g.game i
   paid = paid_of_row g.rows.now g.game i row read own told
 
-  matched : (get_or ways i no_ways).full ≡ get_or (full_of ways) i 0
+  matched : (get_or ways i no_ways).found.full ≡ get_or (full_of ways) i 0
   matched = sym (full_here g.rows.now ways i placed)
 
   more_stakes : (stakes : ℕ) → stakes ≡ paid_in g.rows.now g.game i → stakes + own < 2 ^ 64
@@ -65,7 +65,7 @@ module _ (g : DrawnGame) (ways : List TicketWays) (matches : Matched g ways) (i 
       )
 
   module _ (j : JackpotKind) (s : Stakes) (held : s ≡ stakes_of g.rows.now (full_of ways) g.game j i) where
-    room : record { paid : s.paid + own < 2 ^ 64; winning : s.winning + (get_or ways i no_ways).full * row.stake < 2 ^ 64 }
+    room : record { paid : s.paid + own < 2 ^ 64; winning : s.winning + (get_or ways i no_ways).found.full * row.stake < 2 ^ 64 }
     room =
         record {
           paid = paid_room g.rows.now (full_of ways) g.game j i s held read paid matched g.live entries inside;
@@ -73,7 +73,7 @@ module _ (g : DrawnGame) (ways : List TicketWays) (matches : Matched g ways) (i 
         }
 
     next : (r : Stakes) → r.jackpot ≡ s.jackpot → r.paid ≡ s.paid + cond (eqb row.jackpot (number_of s.jackpot)) own 0
-        → r.winning ≡ s.winning + winning_stake (winner_from row (get_or ways i no_ways).full (number_of s.jackpot))
+        → r.winning ≡ s.winning + winning_stake (winner_from row (get_or ways i no_ways).found.full (number_of s.jackpot))
         → r ≡ stakes_of g.rows.now (full_of ways) g.game j (i + 1)
     next = stakes_next g.rows.now (full_of ways) g.game j i s held read paid matched
 

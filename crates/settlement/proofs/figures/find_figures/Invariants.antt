@@ -2,7 +2,7 @@
 -- of the most that one row adds.
 use mathlib.Core.Path.{◌≡◌}
 use Rattle.settlement.specs.Passing.{full_of}
-use Rattle.settlement.specs.declared.jackpot_kind.JackpotKind.TheVariants.{Six, Eight}
+use Rattle.sale.specs.declared.terms.JackpotKind.TheVariants.{Six, Eight}
 use Rattle.settlement.specs.Sharing.{paid_in, stakes_of}
 use Rattle.settlement.proofs.figures.find_figures.Given as goal
 

@@ -9,7 +9,7 @@ loop-i-init c = finding_none c.args.game.now c.args.majors.now c.requires.places
 
 pub loop-i-preserved : goal.loop-i-preserved
 loop-i-preserved c =
-    finding_more c.args.game.now c.loop-i.invariant (omega (arith, c.requires.places, c.loop-i-test.true)) c.find_ticket-sure.result c.find_ticket-sure.new.majors c.find_ticket-sure.ensures
+    finding_more c.args.game.now c.loop-i.invariant (omega (arith, c.requires.places, c.loop-i-test.true)) c.find_ticket-found.result c.find_ticket-found.new.majors c.find_ticket-found.ensures
 
 pub returns : goal.returns
 returns c = finding_all c.args.game.now c.loop-i.invariant (omega (arith, c.requires.places, c.loop-i-test.false)) (search rules)

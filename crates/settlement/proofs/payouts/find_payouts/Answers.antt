@@ -1,6 +1,6 @@
 -- `settlement::payouts::find_payouts` meets its contract: 250 major prizes or more are paid what is sure; fewer stand in the table, whose cut pays what the
 -- rule pays, and are raised to that. Without live tickets there is nothing to pay.
-use Rattle.settlement.proofs.PassSteps.{nothing_paid, sure_paid, found_cut, raised_paid}
+use Rattle.settlement.proofs.PassSteps.{nothing_paid, sure_paid, found_listed, found_cut, raised_paid}
 use Rattle.settlement.proofs.payouts.find_payouts.Goals as goal
 
 pub returns-then-is_empty : goal.returns-then-is_empty
@@ -9,6 +9,9 @@ returns-then-is_empty c =
 
 pub returns-then-all_floored : goal.returns-then-all_floored
 returns-then-all_floored c = sure_paid c.args.game.now c.find_all.ensures c.if-all_floored.true c.pay_sure.ensures
+
+pub cut-cut-requires-clause-listed : goal.cut-cut-requires-clause-listed
+cut-cut-requires-clause-listed c = found_listed c.args.game.now c.find_all.ensures c.if-all_floored.false
 
 pub pay_raised-requires-clause-cut : goal.pay_raised-requires-clause-cut
 pay_raised-requires-clause-cut c = found_cut c.args.game.now c.find_all.ensures c.if-all_floored.false c.cut-cut.ensures

@@ -31,7 +31,7 @@ module _ {pss : List (List ℕ)} {ways : List TicketWays} {majors : List ℕ} {c
   own_many = omega (arith, ends_at)
 
   raised : {cents : ℕ} → cents ≡ sum (map (λ p. pay_under cut p - major_floor) (take ((get_or ways i no_ways).majors - from) (drop from majors)))
-      → (get_or ways i no_ways).sure + cents ≡ sum (map (payout (all_majors pss)) (get_or pss i []))
+      → (get_or ways i no_ways).found.sure + cents ≡ sum (map (payout (all_majors pss)) (get_or pss i []))
   raised {cents} raise =
       ap (λ n. n + cents) (sure_at pss ways majors cut k i placed)
       ∙ ap (λ n. sure_cents (get_or pss i []) + n) raise

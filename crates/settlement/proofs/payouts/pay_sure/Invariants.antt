@@ -5,4 +5,4 @@ use lib.ListN.{take}
 use Rattle.settlement.proofs.payouts.pay_sure.Given as goal
 
 abbrev pub invariant-loop-i : goal.invariant-loop-i
-invariant-loop-i l = take l.i l.paid ≡ map (λ w. w.sure) (take l.i l.ways)
+invariant-loop-i l = take l.i l.paid ≡ map (λ w. w.found.sure) (take l.i l.ways)

@@ -7,7 +7,7 @@ use lib.ListN.{length-take}
 use lib.Seq.{take_at}
 use Rattle.prizes.specs.declared.jackpot.Jackpot.{Jackpot}
 use Rattle.prizes.proofs.MajorLaws.{sum_std}
-use Rattle.settlement.specs.Kinds.{number_of}
+use Rattle.sale.specs.Kinds.{number_of}
 use Rattle.settlement.specs.Passing.{full_of}
 use Rattle.settlement.specs.Sharing.{stakes_of}
 use Rattle.settlement.specs.Drawn.{SharedOut}

@@ -7,7 +7,7 @@ use native.Mathlib.Omega.{arith}
 use Rattle.sale.specs.Lists.{sum}
 use Rattle.sale.specs.Price.{charge_limit}
 use Rattle.prizes.specs.Jackpots.{jackpot_shares}
-use Rattle.settlement.specs.Kinds.{number_of}
+use Rattle.sale.specs.Kinds.{number_of}
 use Rattle.settlement.specs.Passing.{full_of}
 use Rattle.settlement.specs.Sharing.{stakes_in, winners_in, Shareable}
 use Rattle.settlement.specs.Drawn.{Matched}
@@ -35,14 +35,13 @@ invariant_of-primary c =
     let game = args.game.now in
     let few = paid_few game args.ways.now (number_of args.stakes.jackpot) args.stakes.paid c.requires.matches (ap (λ r. r.paid) c.requires.stakes) in
     record {
-      shared = subst⁻¹ (λ n. Shareable game.rows.now (full_of args.ways.now) c.number.result n c.contributed-grown.result.primary args.stakes.winning)
+      shared = subst⁻¹ (λ n. Shareable game.rows.now (full_of args.ways.now) (number_of args.stakes.jackpot) n c.contributed-grown.result.primary args.stakes.winning)
           (matched_count game args.ways.now c.requires.matches)
-          (subst⁻¹ (λ j. Shareable game.rows.now (full_of args.ways.now) j game.live c.contributed-grown.result.primary args.stakes.winning) c.number.ensures
           (record {
             entered = entered game (full_of args.ways.now) c.requires.matches;
             total = ap (λ r. r.winning) c.requires.stakes;
             pool = (grown_roomy args.stakes.paid args.before c.contributed-grown.result c.contributed-grown.ensures few c.requires.pools).0;
-          }));
+          });
     }
 
 pub share_out-shares-requires : goal.share_out-shares-requires
@@ -56,7 +55,7 @@ reseeded-next-requires c =
     let few = paid_few args.game.now args.ways.now (number_of args.stakes.jackpot) args.stakes.paid c.requires.matches (ap (λ r. r.paid) c.requires.stakes) in
     record {
       room = (grown_roomy args.stakes.paid args.before c.contributed-grown.result c.contributed-grown.ensures few c.requires.pools).1;
-      limit = subst⁻¹ (λ n. n < 2 ^ 63) c.guarantee-guarantee.ensures (guarantee_within (number_of args.stakes.jackpot));
+      limit = subst⁻¹ (λ n. n < 2 ^ 63) c.guarantee_of-guarantee.ensures (guarantee_within (number_of args.stakes.jackpot));
     }
 
 pub returns : goal.returns
@@ -67,10 +66,10 @@ returns c =
     let grown = c.contributed-grown.result in
     shared_out game (full_of args.ways.now) c.requires.matches (number_of args.stakes.jackpot) args.before grown c.reseeded-next.result args.paid.now c.share_out-shares.new.paid
     (record { after = c.repaid.result; shares = c.share_out-shares.result; contributions = 25 * (args.stakes.paid / 100); seed = c.seed.result; repaid = c.repayment.result })
-    args.stakes.paid args.stakes.winning c.guarantee-guarantee.result
-    (ap (λ r. r.paid) c.requires.stakes) (ap (λ r. r.winning) c.requires.stakes) c.contributed-grown.ensures c.guarantee-guarantee.ensures c.reseeded-next.ensures
+    args.stakes.paid args.stakes.winning c.guarantee_of-guarantee.result
+    (ap (λ r. r.paid) c.requires.stakes) (ap (λ r. r.winning) c.requires.stakes) c.contributed-grown.ensures c.guarantee_of-guarantee.ensures c.reseeded-next.ensures
     c.repaid.ensures
-    (c.share_out-shares.ensures.together ∙ (λ k. sum (jackpot_shares grown.primary (winners_in game.rows.now (full_of args.ways.now) (c.number.ensures k) (count k)))))
+    (c.share_out-shares.ensures.together ∙ (λ k. sum (jackpot_shares grown.primary (winners_in game.rows.now (full_of args.ways.now) (number_of args.stakes.jackpot) (count k)))))
     refl c.seed.ensures c.repayment.ensures
     (c.share_out-shares.ensures.each
-    ∙ (λ k. zip_with ◌+◌ args.paid.now (jackpot_shares grown.primary (winners_in game.rows.now (full_of args.ways.now) (c.number.ensures k) (count k)))))
+    ∙ (λ k. zip_with ◌+◌ args.paid.now (jackpot_shares grown.primary (winners_in game.rows.now (full_of args.ways.now) (number_of args.stakes.jackpot) (count k)))))

@@ -13,5 +13,5 @@ returns-clause-tickets c =
     let args = c.args in
     let marks = args.marks.now in
     let ticket = ticket_from args.row (marks_at marks args.place) in
-    let stays : is_live args.house.game ticket ≡ true = not-false _ (sym (c.is_closed.ensures (marks_at marks args.place)) ∙ c.if-is_closed.false) in
-    rw stays (ap (take args.house.live) (c.change_ticket.ensures marks) ∙ take_set args.house.live (tickets_of args.rows.now marks) args.place ticket c.requires.within)
+    let stays : is_live args.house.now.game ticket ≡ true = not-false _ (sym (c.is_closed.ensures (marks_at marks args.place)) ∙ c.if-is_closed.false) in
+    rw stays (ap (take args.house.now.live) (c.change_ticket.ensures marks) ∙ take_set args.house.now.live (tickets_of args.rows.now marks) args.place ticket c.requires.within)

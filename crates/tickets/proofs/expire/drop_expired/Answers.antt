@@ -1,5 +1,5 @@
 -- `tickets::expire::drop_expired` meets its contract: the tickets passed so far are those that stay, and the rest are as they were.
-use Prim.Native.Nat.{◌<◌, ◌^◌}
+use Prim.Native.Nat.{ℕ, ◌<◌, ◌^◌}
 use mathlib.Core.Path.{◌≡◌, sym, ap, ◌∙◌, subst, subst⁻¹}
 use mathlib.Core.Bool.{Bool}
 use mathlib.Core.List.{List, map}
@@ -8,7 +8,7 @@ use lib.ListN.{length, get_or, take}
 use Rattle.sale.specs.Lists.{sum}
 use Rattle.house.specs.Tickets.{Ticket}
 use Rattle.house.specs.Commands.{blank_ticket, is_expired}
-use Rattle.house.specs.View.{row_at, ticket_in, tickets_of, view, DayTells}
+use Rattle.house.specs.View.{marks_at, ticket_from, tickets_of, view, DayTells}
 use Rattle.house.specs.declared.rows.Row.{Row}
 use Rattle.house.proofs.RowLaws.{tickets_length, tickets_at}
 use Rattle.house.proofs.ViewLaws.{view_live}
@@ -19,7 +19,7 @@ use Rattle.tickets.proofs.expire.drop_expired.Goals.{After-is_expired, then-is_e
 -- ---- a turn of the loop
 
 abbrev expires : After-is_expired → Ticket → Bool
-expires c = is_expired (view c.args.house c.args.rows.now c.args.marks.now)
+expires c = is_expired (view c.args.house.now c.args.rows.now c.args.marks.now)
 
 abbrev entry : After-is_expired → List Ticket
 entry c = tickets_of c.args.rows.now c.args.marks.now
@@ -31,10 +31,11 @@ next c = get_or (entry c) c.loop-i.i blank_ticket
 inside : (c : After-is_expired) → c.loop-i.i < length (entry c)
 inside c = omega (arith, c.loop-i-test.true, c.requires.live_bound.0, tickets_length c.args.rows.now c.args.marks.now)
 
--- it is as it was, and the test is of it
-as_it_was : (c : After-is_expired) → ticket_in c.loop-i.rows c.loop-i.marks c.loop-i.i ≡ next c
+-- its row and its marks are as they were, and the test is of it
+as_it_was : (c : After-is_expired) → ticket_from c.read_row-row.result (marks_at c.loop-i.marks c.loop-i.i) ≡ next c
 as_it_was c =
-    sym (tickets_at c.loop-i.rows c.loop-i.marks c.loop-i.i (omega (arith, c.loop-i-test.true, c.requires.live_bound.0)))
+    ap (λ (w : Row). ticket_from w (marks_at c.loop-i.marks c.loop-i.i)) c.read_row-row.ensures
+    ∙ sym (tickets_at c.loop-i.rows c.loop-i.marks c.loop-i.i (omega (arith, c.loop-i-test.true, c.requires.live_bound.0)))
     ∙ next_same (expires c) (entry c) (tickets_of c.loop-i.rows c.loop-i.marks) c.loop-i.i c.loop-i.left c.loop-i.cents c.loop-i.invariant (inside c)
 
 tested : (c : After-is_expired) → c.is_expired.result ≡ expires c (next c)
@@ -42,18 +43,18 @@ unfolding view
 tested c =
     let args = c.args in
     let i = c.loop-i.i in
-    let tells : DayTells args.house.game (ticket_in c.loop-i.rows c.loop-i.marks i) =
-    subst⁻¹ (DayTells args.house.game) (as_it_was c ∙ tickets_at args.rows.now args.marks.now i (omega (arith, c.loop-i-test.true, c.requires.live_bound.0))) (c.requires.days i c.loop-i-test.true) in
-    c.is_expired.ensures (view args.house args.rows.now args.marks.now) c.loop-i.marks tells c.expiry_bound-bound.ensures ∙ ap (expires c) (as_it_was c)
+    let own : List ℕ = marks_at c.loop-i.marks i in
+    let tells : DayTells args.house.now.game (ticket_from c.read_row-row.result own) =
+    subst⁻¹ (DayTells args.house.now.game) (as_it_was c ∙ tickets_at args.rows.now args.marks.now i (omega (arith, c.loop-i-test.true, c.requires.live_bound.0))) (c.requires.days i c.loop-i-test.true) in
+    c.is_expired.ensures (view args.house.now args.rows.now args.marks.now) own tells c.expiry_bound-bound.ensures ∙ ap (expires c) (as_it_was c)
 
--- the row that is read is its row
-due_read : (c : After-is_expired) (row : Row) → row ≡ row_at c.loop-i.rows c.loop-i.i → row.due ≡ (next c).due
-due_read c row read = ap (λ (w : Row). w.due) read ∙ ap (λ (t : Ticket). t.due) (as_it_was c)
+due_read : (c : After-is_expired) → c.read_row-row.result.due ≡ (next c).due
+due_read c = ap (λ (t : Ticket). t.due) (as_it_was c)
 
 -- what the tickets' dues come to at entry
-dues_within : (c : After-is_expired) → sum (map (λ t. t.due) (take c.args.house.live (entry c))) < 2 ^ 62
+dues_within : (c : After-is_expired) → sum (map (λ t. t.due) (take c.args.house.now.live (entry c))) < 2 ^ 62
 dues_within c =
-    subst (λ (ts : List Ticket). sum (map (λ t. t.due) ts) < 2 ^ 62) (view_live c.args.house c.args.rows.now c.args.marks.now c.requires.live_bound.0) c.requires.live_bound.1
+    subst (λ (ts : List Ticket). sum (map (λ t. t.due) ts) < 2 ^ 62) (view_live c.args.house.now c.args.rows.now c.args.marks.now c.requires.live_bound.0) c.requires.live_bound.1
 
 -- ---- at the places of the code
 
@@ -66,8 +67,8 @@ overflow_add-cents c =
     let l = c.loop-i in
     omega (
       arith,
-      due_read at c.read_row-cents.result c.read_row-cents.ensures,
-      passed_fits (expires at) (entry at) (tickets_of l.rows l.marks) l.i l.left l.cents l.invariant (inside at) c.args.house.live (sym (tested at) ∙ c.if-is_expired.true) c.loop-i-test.true,
+      due_read at,
+      passed_fits (expires at) (entry at) (tickets_of l.rows l.marks) l.i l.left l.cents l.invariant (inside at) c.args.house.now.live (sym (tested at) ∙ c.if-is_expired.true) c.loop-i-test.true,
       dues_within at,
     )
 
@@ -77,7 +78,7 @@ loop-i-preserved c =
     let l = c.loop-i in
     let now = tickets_of l.rows l.marks in
     elim c.if-is_expired.branch [
-      | then-is_expired w ↦ rw (w.rows-is, w.marks-is, w.left-is, w.cents-is, due_read at w.read_row-cents.result w.read_row-cents.ensures)
+      | then-is_expired w ↦ rw (w.rows-is, w.marks-is, w.left-is, w.cents-is, due_read at)
           (passed_gone (expires at) (entry at) now l.i l.left l.cents l.invariant (inside at) (sym (tested at) ∙ w.if-is_expired.true))
       | else-is_expired w ↦ rw (w.rows-is, w.marks-is, w.left-is, w.cents-is)
           (passed_stays (expires at) (entry at) now l.i l.left l.cents l.invariant (inside at) (tickets_of w.move_ticket.new.rows w.move_ticket.new.marks)
@@ -90,6 +91,6 @@ pub returns : goal.returns
 returns c =
     let args = c.args in
     let l = c.loop-i in
-    let done : l.i ≡ args.house.live = omega (arith, l.auto.i-end, c.loop-i-test.false) in
-    passed_swept args.house args.rows.now args.marks.now l.rows l.marks l.left l.cents c.requires.live_bound.0
-    (subst (λ i. Passed (is_expired (view args.house args.rows.now args.marks.now)) (tickets_of args.rows.now args.marks.now) (tickets_of l.rows l.marks) i l.left l.cents) done l.invariant)
+    let done : l.i ≡ args.house.now.live = omega (arith, l.auto.i-end, c.loop-i-test.false) in
+    passed_swept args.house.now args.rows.now args.marks.now l.rows l.marks l.left l.cents c.requires.live_bound.0
+    (subst (λ i. Passed (is_expired (view args.house.now args.rows.now args.marks.now)) (tickets_of args.rows.now args.marks.now) (tickets_of l.rows l.marks) i l.left l.cents) done l.invariant)

@@ -8,4 +8,4 @@ use Rattle.tickets.proofs.sell.check_room.Goals as goal
 
 pub overflow_add-end : goal.overflow_add-end
 unfolding view
-overflow_add-end c = omega (arith, c.first_game.ensures [] [], next_within (view c.args.house [] []), c.requires.within)
+overflow_add-end c = omega (arith, c.first_game.ensures [] [], next_within (view c.args.house.now [] []), c.requires.within)

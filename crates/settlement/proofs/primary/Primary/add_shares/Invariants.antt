@@ -2,6 +2,7 @@
 -- ways.
 use Prim.Native.Nat.{◌-◌}
 use mathlib.Core.Path.{◌≡◌}
+use Rattle.sale.specs.Kinds.{number_of}
 use Rattle.prizes.specs.Jackpots.{shares_from}
 use Rattle.prizes.proofs.ShareLaws.{winning_ways}
 use Rattle.settlement.specs.Passing.{full_of}
@@ -11,5 +12,5 @@ use Rattle.settlement.proofs.primary.Primary.add_shares.Given as goal
 
 abbrev pub invariant-loop-i : goal.invariant-loop-i
 invariant-loop-i l =
-    (l.left ≡ l.odd - winning_ways (winners_in l.self.rows.now (full_of l.self.ways.now) l.self.jackpot l.i))
-    × (l.paid ≡ joined_to l.initial.paid (shares_from l.odd l.self.cents l.self.stakes (winners_in l.self.rows.now (full_of l.self.ways.now) l.self.jackpot l.i)))
+    (l.left ≡ l.odd - winning_ways (winners_in l.self.rows.now (full_of l.self.ways.now) (number_of l.self.jackpot) l.i))
+    × (l.paid ≡ joined_to l.initial.paid (shares_from l.odd l.self.cents l.self.stakes (winners_in l.self.rows.now (full_of l.self.ways.now) (number_of l.self.jackpot) l.i)))

@@ -4,6 +4,7 @@ use mathlib.Core.Path.{sym, ap, subst, ◌∙◌}
 use mathlib.Core.List.{zip_with}
 use native.Mathlib.Omega.{arith}
 use lib.ListN.{length}
+use Rattle.sale.specs.Kinds.{number_of}
 use Rattle.prizes.proofs.ShareLaws.{won_shares, no_shares}
 use Rattle.settlement.specs.Passing.{full_of}
 use Rattle.settlement.specs.Sharing.{winners_in}
@@ -13,18 +14,18 @@ use Rattle.settlement.proofs.primary.Primary.share_out.Goals as goal
 pub returns-then-self-eq0 : goal.returns-then-self-eq0
 returns-then-self-eq0 c =
     let primary = c.args.self.now in
-    let winners = winners_in primary.rows.now (full_of primary.ways.now) primary.jackpot (length primary.ways.now) in
+    let winners = winners_in primary.rows.now (full_of primary.ways.now) (number_of primary.jackpot) (length primary.ways.now) in
     let none = sym primary.shared.total ∙ c.if-self-eq0.true in
     record {
       together = sym (no_shares primary.cents winners (not_won winners none));
       each = shares_if_not primary.cents c.args.paid.now winners none
-          (omega (arith, c.requires.places, length_winners primary.rows.now (full_of primary.ways.now) primary.jackpot (length primary.ways.now)));
+          (omega (arith, c.requires.places, length_winners primary.rows.now (full_of primary.ways.now) (number_of primary.jackpot) (length primary.ways.now)));
     }
 
 pub returns : goal.returns
 returns c =
     let primary = c.args.self.now in
-    let winners = winners_in primary.rows.now (full_of primary.ways.now) primary.jackpot (length primary.ways.now) in
+    let winners = winners_in primary.rows.now (full_of primary.ways.now) (number_of primary.jackpot) (length primary.ways.now) in
     let some : 0 < primary.stakes = omega (arith, c.if-self-eq0.false) in
     record {
       together = sym (won_shares primary.cents winners (is_won winners (subst (λ n. 0 < n) primary.shared.total some)));
