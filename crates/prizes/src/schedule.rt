@@ -76,13 +76,15 @@ const TABLE: [u16; 132] = [
 // The three schedules: a word for each of the 21 selections that a schedule has, and a cell for each of the 111 combinations that pay.
 #[derive(Drop)]
 pub struct PrizeTable {
-    cells: [u16; 132],
+    pub cells: [u16; 132],
     ghost kept: { Schedules cells },
 }
 
 impl PrizeTable {
     // The table, for a game.
-    pub fn of_the_rules() -> PrizeTable {
+    pub fn of_the_rules() -> PrizeTable
+        ensures { Schedules result.cells }
+    {
         PrizeTable { cells: TABLE }
     }
 

@@ -69,6 +69,6 @@ jackpot_number (Some jackpot) = number_of jackpot
 unfoldable pub jackpot_named : ℕ → Option JackpotKind
 jackpot_named n = cond (eqb n 6) (Some Six) (cond (eqb n 8) (Some Eight) None)
 
--- the jackpot that an operand names, or the refusal of one that names none
+-- the jackpot that Transfer's operand names, or the refusal of one that names none: 28 of the table
 abbrev pub jackpot_operand : ℕ → Result JackpotKind Refusal
 jackpot_operand n = ok_or (jackpot_named n) UnknownJackpot
