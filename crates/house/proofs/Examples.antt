@@ -3,7 +3,7 @@
 use mathlib.Core.Path.{◌≡◌, refl}
 use mathlib.Core.List.{List, [], ◌∷◌, ◌++◌, map, zip_with}
 use Prim.Native.Nat.{ℕ, ◌+◌, ◌-◌}
-use lib.ListN.{replicate}
+use lib.ListN.{length, replicate}
 use lib.Count.{ones, ones_in}
 use Rattle.sale.specs.Lists.{sum, below, keep, every, any, member}
 use Rattle.sale.specs.Kinds.{kind_of, within}
@@ -15,7 +15,7 @@ use Rattle.std.specs.Prelude.{Option, None, Some}
 use Rattle.prizes.specs.Schedules.{standard_rows, cell}
 use Rattle.prizes.specs.Prize.{dollars, prize}
 use Rattle.prizes.specs.Cut.{floor_count, cut_base, joins, round_of, rounds, floored_of, cut_prize, payout}
-use Rattle.prizes.specs.Jackpots.{contribution, contributed, winning_stakes, share_of, odd_cents, shares_from, jackpot_won, jackpot_shares, seed_of, reseeded, repaid}
+use Rattle.prizes.specs.Jackpots.{contribution, contributed, winning_stakes, share_of, odd_cents, each_way, rank_among, ranked, odd_cents_at, shares_with, shares_from, jackpot_won, jackpot_shares, seed_of, reseeded, repaid}
 use Rattle.prizes.specs.Settle.{prizes_by, full_by, winner_of, paid_for, majors_of, prizes_of, all_prizes_of, settle_jackpot, settle}
 use Rattle.prizes.specs.LuckyLast.{lucky_last_row, lucky_last_cents, numbers_marked, lucky_last_prize}
 use Rattle.sale.specs.Kinds.{jackpot_by}
@@ -64,6 +64,10 @@ cut majors = map (payout majors) majors
 abbrev pays_claim : ℕ → List Command → ℕ
 pays_claim n commands = (answer_after commands (claim n)).cents
 
+-- what tickets on the same six numbers are paid, with the given stakes, once a game has all six
+abbrev claims_of_sixes : List ℕ → List ℕ
+claims_of_sixes stakes = map (λ n. pays_claim (n + 1) (game 1 (map (first 1 6 1) stakes))) (below (length stakes))
+
 abbrev date : ℕ → ℕ → ℕ → ℕ
 date day month year = day_of (record { year = year; month = month; day = day })
 
@@ -84,13 +88,13 @@ pub settled_examples :
     × (pays_claim 1 (game 1 (first 1 6 1 100 ∷ [])) ≡ 100015)
     × ((run (game 1 (first 1 6 1 100 ∷ []))).house.counters.seeds ≡ 1350000 + 99995)
     × ((run (game 1 (first 1 6 1 100 ∷ []))).house.six.debt ≡ 199990)
-    × (pays_claim 1 (game 1 (first 1 6 1 100 ∷ first 1 6 1 200 ∷ [])) ≡ 33349)
-    × (pays_claim 2 (game 1 (first 1 6 1 100 ∷ first 1 6 1 200 ∷ [])) ≡ 66696)
+    × (claims_of_sixes (100 ∷ 200 ∷ []) ≡ 33348 ∷ 66697 ∷ [])
+    × (claims_of_sixes (100 ∷ 300 ∷ 200 ∷ []) ≡ 16681 ∷ 50046 ∷ 33363 ∷ [])
     × (map (expired_on (date 1 3 1999)) (date 1 3 2000 ∷ date 2 3 2000 ∷ []) ≡ 0 ∷ 300 ∷ [])
     × (pays_claim 1 (finished (date 1 3 1999) (date 1 3 2000) ++ (expire ∷ [])) ≡ 300)
     × (map (expired_on (date 28 2 2000)) (date 28 2 2001 ∷ date 1 3 2001 ∷ []) ≡ 0 ∷ 300 ∷ [])
     × (map (expired_on (date 29 2 2000)) (date 28 2 2001 ∷ date 1 3 2001 ∷ []) ≡ 0 ∷ 300 ∷ [])
     × (map lucky_charge (49 ∷ 50 ∷ 99 ∷ 100 ∷ []) ≡ 9800 ∷ 9800 ∷ 19600 ∷ 19600 ∷ [])
     × (map (λ balls. pays_claim 1 (lucky_game balls)) (one_last ∷ one_nineteenth ∷ []) ≡ 6300 ∷ 300 ∷ [])
-unfolding sum below keep every any member kind_of within mark_of size_of last_of hits_of by_group nominated ways mask_sum way_sizes paid_games minimum_stake stake_fits game_price charge first_met marks_fit operand_rows standard_rows cell dollars prize floor_count cut_base joins round_of rounds floored_of cut_prize payout contribution contributed winning_stakes share_of odd_cents shares_from jackpot_won jackpot_shares seed_of reseeded repaid prizes_by full_by jackpot_by winner_of paid_for majors_of prizes_of lucky_last_row lucky_last_cents numbers_marked lucky_last_prize all_prizes_of settle_jackpot settle is_leap_year month_length next_day date_of month_days year_days day_of a_year_on is_later has_expired runs_in games_left paid_stakes ticket_at still_live rows_of code_of opened sold settlement awarded game_settled ball_entered claimed is_expired expired act reply step next run_from changed ones ones_in zip_with
+unfolding sum below keep every any member kind_of within mark_of size_of last_of hits_of by_group nominated ways mask_sum way_sizes paid_games minimum_stake stake_fits game_price charge first_met marks_fit operand_rows standard_rows cell dollars prize floor_count cut_base joins round_of rounds floored_of cut_prize payout contribution contributed winning_stakes share_of odd_cents each_way rank_among ranked odd_cents_at shares_with shares_from jackpot_won jackpot_shares seed_of reseeded repaid prizes_by full_by jackpot_by winner_of paid_for majors_of prizes_of lucky_last_row lucky_last_cents numbers_marked lucky_last_prize all_prizes_of settle_jackpot settle is_leap_year month_length next_day date_of month_days year_days day_of a_year_on is_later has_expired runs_in games_left paid_stakes ticket_at still_live rows_of code_of opened sold settlement awarded game_settled ball_entered claimed is_expired expired act reply step next run_from changed ones ones_in zip_with
 settled_examples = (refl, refl, refl, refl, refl, refl, refl, refl, refl, refl, refl, refl, refl, refl, refl, refl, refl)

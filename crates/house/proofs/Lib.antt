@@ -28,4 +28,5 @@ pub mod ViewLaws
 pub mod CallsBalanced
 pub mod Reliance
 pub mod DifferentBalls
+pub mod OddCentsByNumber
 pub mod Examples

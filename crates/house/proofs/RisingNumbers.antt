@@ -63,7 +63,7 @@ rising_keep_by : (t : Ticket) (ts : List Ticket) (test : Bool) → All (λ u. t.
 rising_keep_by t ts true all rising = (all, rising)
 rising_keep_by t ts false all rising = rising
 
-rising_keep : (f : Ticket → Bool) (ts : List Ticket) → Rising ts → Rising (keep f ts)
+pub rising_keep : (f : Ticket → Bool) (ts : List Ticket) → Rising ts → Rising (keep f ts)
 unfolding keep
 rising_keep f [] rising = tt
 rising_keep f (t ∷ ts) (all, rising) =

@@ -10,6 +10,8 @@ pub mod CutPlaces
 pub mod CutFloors
 pub mod MajorLaws
 pub mod FoundLaws
+pub mod RankedWays
+pub mod OddCents
 pub mod ShareLaws
 pub mod LuckyLastLaws
 pub mod FeatureBeside

@@ -1,23 +1,23 @@
 -- The shares of a jackpot's primary: each share as the code computes it, all of them within the primary, fewer odd cents than winning ways, and
 -- so all of the primary paid out. Each rounded quotient is held between its bounds, times the stakes.
-use mathlib.Core.Path.{◌≡◌, refl, sym, ap, ◌∙◌}
+use mathlib.Core.Path.{◌≡◌, refl, sym, ap, ap₂, ◌∙◌}
 use mathlib.Core.Bool.{Bool, true, false, cond}
-use mathlib.Core.List.{List, [], ◌∷◌, map}
+use mathlib.Core.List.{List, [], ◌∷◌, ◌++◌, map}
 use Prim.Native.Nat.{ℕ, zero, suc, ◌+◌, ◌*◌, ◌-◌, ◌/◌, ◌%◌, ◌≤◌, ◌<◌, min}
 use native.Mathlib.Nat.{add-mul, mul-add, mul_assoc, mul_left_comm, mul_right_comm, zero-mul, le_trans, le_of_mul-le-mul_right, lt_of_mul-lt-mul_right, mul-le-mul_left, div-mul-le_self, div-add-mod', lt-div-mul-add, mul-add-div_right}
 use native.Mathlib.Omega.{arith}
-use lib.ListN.{length, length-map}
+use lib.ListN.{length, get_or, length-map, length-append}
+use lib.Dec.{leb}
+use Rattle.std.proofs.lemmas.List.{append_assoc}
 use borrow.Author.Tests.{ltb-true}
 use Rattle.sale.specs.Lists.{sum}
-use Rattle.prizes.specs.Jackpots.{Winner, winning_stakes, share_of, odd_cents, shares_from, jackpot_won, jackpot_shares}
+use Rattle.prizes.specs.Jackpots.{Winner, winning_stakes, share_of, odd_cents, odd_cents_at, shares_with, shares_from, jackpot_won, jackpot_shares}
+use Rattle.prizes.proofs.OddCents.{no_winner, ahead_of, odd_cents_left, ways_from, ways_above, odd_cents_between, sum_at, odd_cents_together}
+pub use Rattle.prizes.proofs.OddCents.{winning_ways}
 
 -- the rounded shares of all winning ways
 abbrev pub whole_shares : ℕ → ℕ → List Winner → ℕ
 whole_shares p s ws = sum (map (λ w. w.count * share_of p s w.stake) ws)
-
--- how many ways win
-abbrev pub winning_ways : List Winner → ℕ
-winning_ways ws = sum (map (λ w. w.count) ws)
 
 -- the quotient first, then the rest: the same share, with smaller products
 pub share_by_parts : (p s stake : ℕ) → 0 < s → p / s * stake + p % s * stake / s ≡ share_of p s stake
@@ -73,15 +73,75 @@ module _ (p s : ℕ) (pos : 0 < s) where
       )
 
 -- all of them: the shares, and an odd cent for each way while there are any
+sum_shares_with : (odd_at : ℕ → ℕ) (place p s : ℕ) (ws : List Winner)
+    → sum (shares_with odd_at place p s ws) ≡ whole_shares p s ws + sum_at odd_at place ws
+unfolding sum shares_with
+sum_shares_with odd_at place p s [] = refl
+sum_shares_with odd_at place p s (w ∷ ws) = omega (arith, sum_shares_with odd_at (suc place) p s ws)
+
 pub sum_shares_from : (odd p s : ℕ) (ws : List Winner) → sum (shares_from odd p s ws) ≡ whole_shares p s ws + min odd (winning_ways ws)
-unfolding sum shares_from
-sum_shares_from odd p s [] = omega arith
-sum_shares_from odd p s (w ∷ ws) = omega (arith, sum_shares_from (odd - w.count) p s ws)
+unfolding shares_from
+sum_shares_from odd p s ws =
+    omega (arith, sum_shares_with (odd_cents_at odd ws) 0 p s ws, odd_cents_together odd ws)
+
+length_shares_with : (odd_at : ℕ → ℕ) (place p s : ℕ) (ws : List Winner) → length (shares_with odd_at place p s ws) ≡ length ws
+unfolding shares_with
+length_shares_with odd_at place p s [] = refl
+length_shares_with odd_at place p s (w ∷ ws) = ap suc (length_shares_with odd_at (suc place) p s ws)
 
 pub length_shares_from : (odd p s : ℕ) (ws : List Winner) → length (shares_from odd p s ws) ≡ length ws
 unfolding shares_from
-length_shares_from odd p s [] = refl
-length_shares_from odd p s (w ∷ ws) = ap suc (length_shares_from (odd - w.count) p s ws)
+length_shares_from odd p s ws = length_shares_with (odd_cents_at odd ws) 0 p s ws
+
+-- the ticket at a place gets its share, with what the ways that rank before its own leave of the odd cents
+share_placed : (odd_at : ℕ → ℕ) (place p s : ℕ) (ws : List Winner) (i n : ℕ) → i < length ws → n ≡ place + i
+    → get_or (shares_with odd_at place p s ws) i 0 ≡ (get_or ws i no_winner).count * share_of p s (get_or ws i no_winner).stake + odd_at n
+unfolding shares_with
+share_placed odd_at place p s [] i n h at = absurd (omega arith)
+share_placed odd_at place p s (w ∷ ws) zero n h at =
+    let here : place ≡ n = omega arith in ap (λ m. w.count * share_of p s w.stake + odd_at m) here
+share_placed odd_at place p s (w ∷ ws) (suc i) n h at = share_placed odd_at (suc place) p s ws i n (omega arith) (omega arith)
+
+pub share_at : (odd p s : ℕ) (ws : List Winner) (i : ℕ) → i < length ws
+    → get_or (shares_from odd p s ws) i 0
+    ≡ (get_or ws i no_winner).count * share_of p s (get_or ws i no_winner).stake + min (odd - ahead_of ws i) (get_or ws i no_winner).count
+unfolding shares_from
+share_at odd p s ws i h =
+    share_placed (odd_cents_at odd ws) 0 p s ws i i h (omega arith)
+    ∙ ap (λ n. (get_or ws i no_winner).count * share_of p s (get_or ws i no_winner).stake + n) (odd_cents_left odd ws i)
+
+-- the shares ticket by ticket, from how many ways of the tickets before them have at least so large a stake
+unfoldable pub shares_behind : (ℕ → ℕ) → ℕ → ℕ → ℕ → List Winner → List ℕ
+shares_behind before odd p s [] = []
+shares_behind before odd p s (w ∷ ws) =
+    (w.count * share_of p s w.stake + min (odd - (before w.stake + ways_above w.stake ws)) w.count)
+    ∷ shares_behind (λ x. before x + cond (leb x w.stake) w.count 0) odd p s ws
+
+one_more : (f : Winner → ℕ) (vs : List Winner) (w : Winner) → sum (map f (vs ++ (w ∷ []))) ≡ sum (map f vs) + f w
+unfolding sum
+one_more f [] w = omega arith
+one_more f (v ∷ vs) w = omega (arith, one_more f vs w)
+
+module _ (odd p s : ℕ) where
+  behind_front : (front ws : List Winner)
+      → shares_with (odd_cents_at odd (front ++ ws)) (length front) p s ws ≡ shares_behind (λ x. ways_from x front) odd p s ws
+  unfolding shares_with shares_behind
+  behind_front front [] = refl
+  behind_front front (w ∷ ws) =
+      ap₂ (λ (n : ℕ) (l : List ℕ). (w.count * share_of p s w.stake + n) ∷ l) (odd_cents_between odd front w ws)
+      ((λ k. shares_with (odd_cents_at odd (sym (append_assoc front (w ∷ []) ws) k)) (longer k) p s ws)
+      ∙ behind_front (front ++ (w ∷ [])) ws
+      ∙ (λ k. shares_behind (λ x. more x k) odd p s ws))
+    where
+      longer : suc (length front) ≡ length (front ++ (w ∷ []))
+      longer = omega (arith, length-append front (w ∷ []))
+
+      more : (x : ℕ) → ways_from x (front ++ (w ∷ [])) ≡ ways_from x front + cond (leb x w.stake) w.count 0
+      more x = one_more (λ v. cond (leb x v.stake) v.count 0) front w
+
+  pub shares_in_turn : (ws : List Winner) → shares_from odd p s ws ≡ shares_behind (λ x. 0) odd p s ws
+  unfolding shares_from sum
+  shares_in_turn ws = behind_front [] ws
 
 -- where no way wins there are no winning stakes
 no_ways : (ws : List Winner) → winning_ways ws ≡ 0 → winning_stakes ws ≡ 0
@@ -128,6 +188,14 @@ sum_none (w ∷ ws) = omega (arith, sum_none ws)
 pub won_shares : (p : ℕ) (ws : List Winner) → jackpot_won ws ≡ true → sum (jackpot_shares p ws) ≡ p
 unfolding jackpot_shares
 won_shares p ws won = rw won (all_shared p ws (ltb-true 0 (winning_stakes ws) (unfold jackpot_won in won)))
+
+-- a ticket gets its rounded shares and its odd cents
+pub share_with_odd : (p : ℕ) (ws : List Winner) → jackpot_won ws ≡ true → (i : ℕ) → i < length ws
+    → get_or (jackpot_shares p ws) i 0
+    ≡ (get_or ws i no_winner).count * share_of p (winning_stakes ws) (get_or ws i no_winner).stake + odd_cents_at (odd_cents p (winning_stakes ws) ws) ws i
+unfolding jackpot_shares shares_from
+share_with_odd p ws won i h =
+    rw won (share_placed (odd_cents_at (odd_cents p (winning_stakes ws) ws) ws) 0 p (winning_stakes ws) ws i i h (omega arith))
 
 -- one that nobody won pays nothing
 pub no_shares : (p : ℕ) (ws : List Winner) → jackpot_won ws ≡ false → sum (jackpot_shares p ws) ≡ 0

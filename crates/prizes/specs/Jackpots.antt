@@ -1,10 +1,11 @@
 -- "Two, for 6 and 8 numbers, with guarantees 100,000 and 1,250,000. Each has a primary, a secondary and a reimbursement pool and a seed
 -- debt. Each paid stake dollar of a drawn kind 1 game gives 25 cents to its jackpot: 15, 5, 5 [..]. At the twentieth ball, in this order:
 -- contributions; prizes and cuts; each full match shares the primary in proportion to stake, rounded down; odd cents go one to each winning
--- way, tickets in number order. If there was a winner: the secondary moves into the primary, and the house adds a seed up to the guarantee,
--- which joins the debt. Last, reimbursement pays the house as much of the debt as it can, winner or none."
-use Rattle.std.specs.Prelude.{ℕ, ◌+◌, ◌*◌, ◌-◌, ◌/◌, min, Bool, cond, List, [], ◌∷◌, map, ltb}
-use Rattle.sale.specs.Lists.{sum}
+-- way [..]. If there was a winner: the secondary moves into the primary, and the house adds a seed up to the guarantee, which joins the debt.
+-- Last, reimbursement pays the house as much of the debt as it can, winner or none." And the customers' request: "Odd cents go to winning ways
+-- by stake, larger first, equal stakes by ticket number."
+use Rattle.std.specs.Prelude.{ℕ, suc, ◌+◌, ◌*◌, ◌-◌, ◌/◌, min, Bool, cond, ◌&&◌, ◌||◌, List, [], ◌∷◌, ◌++◌, map, length, take, replicate, eqb, ltb}
+use Rattle.sale.specs.Lists.{sum, keep}
 use Rattle.prizes.specs.declared.jackpot.Jackpot.{Jackpot}
 
 abbrev pub guarantee_of_six : ℕ
@@ -59,11 +60,42 @@ share_of p s stake = p * stake / s
 unfoldable pub odd_cents : ℕ → ℕ → List Winner → ℕ
 odd_cents p s ws = p - sum (map (λ w. w.count * share_of p s w.stake) ws)
 
--- what each ticket's winning ways get, with one odd cent to each way in the tickets' order while there are any
+-- one winning way: the place of its ticket among the game's tickets, which stand in the order of their numbers, and its stake
+pub record WinningWay : Type 0 where
+  pub place : ℕ
+  pub stake : ℕ
+
+-- each winning way by itself, of tickets that stand from a place on
+unfoldable pub each_way : ℕ → List Winner → List WinningWay
+each_way place [] = []
+each_way place (w ∷ ws) = replicate w.count (record { place = place; stake = w.stake }) ++ each_way (suc place) ws
+
+-- "by stake, larger first, equal stakes by ticket number"
+abbrev pub ranks_before : WinningWay → WinningWay → Bool
+ranks_before v w = ltb w.stake v.stake || (eqb v.stake w.stake && ltb v.place w.place)
+
+-- a way among ranked ones, behind those that rank before it
+unfoldable pub rank_among : WinningWay → List WinningWay → List WinningWay
+rank_among w [] = w ∷ []
+rank_among w (v ∷ vs) = cond (ranks_before v w) (v ∷ rank_among w vs) (w ∷ v ∷ vs)
+
+-- ways in that order
+unfoldable pub ranked : List WinningWay → List WinningWay
+ranked [] = []
+ranked (w ∷ ws) = rank_among w (ranked ws)
+
+-- of so many odd cents those of the ticket at a place: the first ways have one each
+unfoldable pub odd_cents_at : ℕ → List Winner → ℕ → ℕ
+odd_cents_at odd ws place = length (keep (λ w. eqb w.place place) (take odd (ranked (each_way 0 ws))))
+
+-- what the winning ways of each ticket get, of tickets that stand from a place on: their shares, and the odd cents of the ticket at each place
+unfoldable pub shares_with : (ℕ → ℕ) → ℕ → ℕ → ℕ → List Winner → List ℕ
+shares_with odd_at place p s [] = []
+shares_with odd_at place p s (w ∷ ws) = (w.count * share_of p s w.stake + odd_at place) ∷ shares_with odd_at (suc place) p s ws
+
+-- what all tickets get, where so many cents are odd
 unfoldable pub shares_from : ℕ → ℕ → ℕ → List Winner → List ℕ
-shares_from odd p s [] = []
-shares_from odd p s (w ∷ ws) =
-    (w.count * share_of p s w.stake + min odd w.count) ∷ shares_from (odd - w.count) p s ws
+shares_from odd p s ws = shares_with (odd_cents_at odd ws) 0 p s ws
 
 -- a stake is at least 100, so that a winning way has stakes above 0
 unfoldable pub jackpot_won : List Winner → Bool

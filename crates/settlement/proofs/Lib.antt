@@ -4,5 +4,6 @@ pub mod JoinedTables
 pub mod PassLaws
 pub mod PassSteps
 pub mod SharingLaws
+pub mod PrimaryLaws
 pub mod FeatureLaws
 pub mod GameLaws

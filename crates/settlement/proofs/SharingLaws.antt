@@ -1,14 +1,15 @@
 -- The walks over the rows in which a jackpot is shared, one row more at a time; the bounds that keep them within 64 bits; and that they come to
 -- the same stakes and shares as the entries of the game, since a ticket that does not run pays and wins nothing.
 use Prim.Native.Nat.{ℕ, zero, suc, ◌+◌, ◌-◌, ◌*◌, ◌/◌, ◌≤◌, ◌<◌, ◌^◌, min}
-use native.Mathlib.Nat.{add-zero, mul-one, mul-le-mul, mul-le-mul_left, sub-zero, zero-mul, sub-add-eq}
+use native.Mathlib.Nat.{add-zero, mul-one, mul-le-mul, mul-le-mul_left, zero-mul}
 use native.Mathlib.Numerals.{add-one}
 use native.Mathlib.Omega.{arith}
-use mathlib.Core.Path.{◌≡◌, refl, sym, ap, subst, subst⁻¹, ◌∙◌}
+use mathlib.Core.Path.{◌≡◌, refl, sym, ap, ap₂, subst, subst⁻¹, ◌∙◌}
 use mathlib.Core.Bool.{Bool, true, false, cond}
 use mathlib.Core.List.{List, [], ◌∷◌, ◌++◌, map, map-map, map-append, zip_with}
-use lib.Dec.{eqb, ltb}
-use lib.ListN.{length, set, get_or, length-map}
+use lib.Dec.{eqb, ltb, leb}
+use lib.ListN.{length, set, get_or, take, length-map, length-take}
+use lib.Seq.{take-suc, take-length}
 use Rattle.std.specs.List as List_std
 use Rattle.std.specs.List.{range_with_len}
 use Rattle.std.proofs.lemmas.List.FromFn.{sum_by-map-range_with_len_more}
@@ -17,8 +18,9 @@ use Rattle.sale.specs.Lists.{sum, keep, below}
 use Rattle.sale.specs.Price.{charge_limit, charge, game_price}
 use Rattle.sale.specs.Checks.{price_of, feature_stake}
 use Rattle.prizes.specs.Bounds.{Roomy, Sharing}
-use Rattle.prizes.specs.Jackpots.{Winner, winning_stake, winning_stakes, share_of, odd_cents, shares_from, jackpot_won, jackpot_shares, contribution, contributed, seed_of, reseeded, repaid_of, repaid}
-use Rattle.prizes.proofs.ShareLaws.{whole_shares, winning_ways, ticket_within, whole_within, length_shares_from, length_shares}
+use Rattle.prizes.specs.Jackpots.{Winner, WinningWay, each_way, ranks_before, winning_stake, winning_stakes, share_of, odd_cents, shares_from, jackpot_won, jackpot_shares, contribution, contributed, seed_of, reseeded, repaid_of, repaid}
+use Rattle.prizes.proofs.OddCents.{no_winner, ways_above, passing_one_more}
+use Rattle.prizes.proofs.ShareLaws.{whole_shares, ticket_within, whole_within, length_shares_from, length_shares, share_at, shares_behind, shares_in_turn}
 use Rattle.sale.specs.Ways.{sizes, ways, mask_sum}
 use Rattle.prizes.specs.Hits.{hits}
 use Rattle.prizes.specs.Settle.{Entry, full_by, full_matches, plays_for, winner_of, paid_for, settle_jackpot}
@@ -38,7 +40,7 @@ use Rattle.settlement.specs.declared.ways.TicketWays.{TicketWays}
 use Rattle.sale.specs.Kinds.{number_of}
 use Rattle.sale.specs.declared.terms.JackpotKind.{JackpotKind}
 use Rattle.settlement.specs.declared.figures.Stakes.{Stakes}
-use Rattle.settlement.specs.Sharing.{paid_at, paid_in, stakes_at, stakes_in, winner_from, winner_at, winners_in, stakes_of, Entered, Shareable}
+use Rattle.settlement.specs.Sharing.{paid_at, paid_in, stakes_at, stakes_in, winner_from, winner_at, winners_in, ways_ahead, stakes_of, Entered, Shareable}
 use Rattle.house.proofs.ListLaws.{cond_either}
 use Rattle.settlement.proofs.TablePlaces.{tables_alike}
 use Rattle.settlement.proofs.JoinedTables.{joined_to, joined_none, joined_place, joined_step, joined_whole}
@@ -135,6 +137,10 @@ module _ (words full : List ℕ) (j : ℕ) where
   unfolding winners_in
   length_winners n = length_table (winner_at words full j) n
 
+  pub winner_placed : (n i : ℕ) → i < n → get_or (winners_in words full j n) i no_winner ≡ winner_at words full j i
+  unfolding winners_in
+  winner_placed n i h = get_or_table (winner_at words full j) n i no_winner h
+
   -- a figure of each winner, summed
   module _ (f : Winner → ℕ) where
     pub figures_none : sum (map f (winners_in words full j 0)) ≡ 0
@@ -186,11 +192,31 @@ module _ (words full : List ℕ) (j : ℕ) where
   unfolding winning_stakes
   winning_more i = figures_more winning_stake i
 
-  pub ways_none : winning_ways (winners_in words full j 0) ≡ 0
-  ways_none = figures_none (λ w. w.count)
+  -- the ways that rank before a way: std's sum over the places is that of the winners at them
+  module _ (x : WinningWay) where
+    abbrev pub ahead_here : ℕ → ℕ
+    ahead_here i = cond (ranks_before (record { place = i; stake = (winner_at words full j i).stake }) x) (winner_at words full j i).count 0
 
-  pub ways_more : (i : ℕ) → winning_ways (winners_in words full j (i + 1)) ≡ winning_ways (winners_in words full j i) + (winner_at words full j i).count
-  ways_more i = figures_more (λ w. w.count) i
+    abbrev pub ahead_among : ℕ → ℕ
+    ahead_among n = length (keep (λ v. ranks_before v x) (each_way 0 (winners_in words full j n)))
+
+    ahead_none : ahead_among 0 ≡ 0
+    unfolding each_way keep
+    ahead_none = ap (λ ws. length (keep (λ v. ranks_before v x) (each_way 0 ws))) winners_none
+
+    ahead_more : (i : ℕ) → ahead_among (i + 1) ≡ ahead_among i + ahead_here i
+    ahead_more i =
+        ap (λ ws. length (keep (λ v. ranks_before v x) (each_way 0 ws))) (winners_more i)
+        ∙ passing_one_more (λ v. ranks_before v x) (winners_in words full j i) (winner_at words full j i)
+        ∙ ap (λ n. ahead_among i + cond (ranks_before (record { place = n; stake = (winner_at words full j i).stake }) x) (winner_at words full j i).count 0) (length_winners i)
+
+    pub ahead_ranged : (n : ℕ) → List_std.sum (map ahead_here (range_with_len 0 n)) ≡ ahead_among n
+    ahead_ranged zero = sym ahead_none
+    ahead_ranged (suc n) =
+        subst (λ k. List_std.sum (map ahead_here (range_with_len 0 k)) ≡ ahead_among k) (add-one n)
+        (sum_by-map-range_with_len_more (λ k. k) ahead_here 0 n n (omega arith)
+        ∙ ap (λ k. k + ahead_here n) (ahead_ranged n)
+        ∙ sym (ahead_more n))
 
   -- ---- bounds
 
@@ -198,6 +224,17 @@ module _ (words full : List ℕ) (j : ℕ) where
     winners_few : (i : ℕ) → i < live → (winner_at words full j i).count ≤ 255
     unfolding winner_at
     winners_few i h = within_by (eqb (row_at words i).jackpot j) (entered.ways i h)
+
+    pub ahead_within : (x : WinningWay) (i : ℕ) → i ≤ live → ahead_among x i ≤ i * 255
+    ahead_within x zero h = omega (arith, ahead_none x)
+    ahead_within x (suc i) h =
+        rw (← add-one i)
+        (omega (
+          arith,
+          ahead_more x i,
+          ahead_within x i (omega arith),
+          within_by (ranks_before (record { place = i; stake = (winner_at words full j i).stake }) x) (winners_few i (omega arith)),
+        ))
 
     winning_at_within : (i : ℕ) → i < live → (winner_at words full j i).count * (winner_at words full j i).stake ≤ 255 * charge_limit
     unfolding winner_at
@@ -210,7 +247,7 @@ module _ (words full : List ℕ) (j : ℕ) where
 
   module _ (live primary stakes : ℕ) (shared : Shareable words full j live primary stakes) (some : 0 < stakes) where
     -- each ticket's winning ways among all of them
-    sharing_at : (i : ℕ) → i < live → Sharing primary stakes (winner_at words full j i).count (winner_at words full j i).stake
+    pub sharing_at : (i : ℕ) → i < live → Sharing primary stakes (winner_at words full j i).count (winner_at words full j i).stake
     unfolding winning_stakes winner_at
     sharing_at i h =
         record {
@@ -221,15 +258,6 @@ module _ (words full : List ℕ) (j : ℕ) where
           part = omega (arith, shared.total, figure_within winning_stake live i h);
           few = omega (arith, winners_few live shared.entered i h);
         }
-
-    -- the same of winning ways that were read
-    module _ {count stake : ℕ} (i : ℕ) (counted : count ≡ (winner_at words full j i).count) (staked : stake ≡ (winner_at words full j i).stake) where
-      pub sharing_of : i < live → Sharing primary stakes count stake
-      sharing_of h = subst⁻¹ (λ n. Sharing primary stakes n stake) counted (subst⁻¹ (Sharing primary stakes (winner_at words full j i).count) staked (sharing_at i h))
-
-      pub share_here : (odd : ℕ) {share : ℕ} → share ≡ count * share_of primary stakes stake + min odd count
-          → share ≡ (winner_at words full j i).count * share_of primary stakes (winner_at words full j i).stake + min odd (winner_at words full j i).count
-      share_here odd e = e ∙ (λ k. counted k * share_of primary stakes (staked k) + min odd (counted k))
 
     -- the rounded shares of the first rows are within the primary
     pub whole_so_far : (i : ℕ) → i ≤ live → whole_shares primary stakes (winners_in words full j i) ≤ primary
@@ -311,44 +339,44 @@ module _ (words : List ℕ) (ways : List TicketWays) (i : ℕ) (inside : i < len
 
 -- ---- shares joined to what is paid
 
--- one winner more gets its share with what the ways before it leave of the odd cents
-pub shares_more : (odd p s : ℕ) (ws : List Winner) (w : Winner)
-    → shares_from odd p s (ws ++ (w ∷ []))
-    ≡ shares_from odd p s ws ++ ((w.count * share_of p s w.stake + min (odd - winning_ways ws) w.count) ∷ [])
-unfolding shares_from sum
-shares_more odd p s [] w = ap (λ n. (w.count * share_of p s w.stake + min n w.count) ∷ []) (sym (sub-zero odd))
-shares_more odd p s (v ∷ ws) w =
-    ap (◌∷◌ (v.count * share_of p s v.stake + min odd v.count))
-    (shares_more (odd - v.count) p s ws w
-    ∙ ap (λ n. shares_from (odd - v.count) p s ws ++ ((w.count * share_of p s w.stake + min n w.count) ∷ [])) (sym (sub-add-eq odd v.count (winning_ways ws))))
+-- the shares of the first tickets
+module _ (words full : List ℕ) (j odd p s live : ℕ) (ps : List ℕ) where
+  abbrev winners : List Winner
+  winners = winners_in words full j live
 
-module _ (words full : List ℕ) (j odd p s : ℕ) (ps : List ℕ) where
-  abbrev given : ℕ → List ℕ
-  given i = shares_from odd p s (winners_in words full j i)
+  abbrev pub given : ℕ → List ℕ
+  given i = take i (shares_from odd p s winners)
 
-  length_given : (i : ℕ) → length (given i) ≡ i
-  length_given i = length_shares_from odd p s (winners_in words full j i) ∙ length_winners words full j i
+  length_all : length (shares_from odd p s winners) ≡ live
+  length_all = length_shares_from odd p s winners ∙ length_winners words full j live
+
+  length_given : (i : ℕ) → i ≤ live → length (given i) ≡ i
+  length_given i h = omega (arith, length-take i (shares_from odd p s winners), length_all)
 
   pub given_none : ps ≡ joined_to ps (given 0)
-  unfolding shares_from
-  given_none = sym (ap (λ ws. joined_to ps (shares_from odd p s ws)) (winners_none words full j) ∙ joined_none ps)
+  given_none = sym (joined_none ps)
 
   -- what the next ticket is paid is as it was
-  pub given_next : (paid : List ℕ) (i : ℕ) → paid ≡ joined_to ps (given i) → get_or paid i 0 ≡ get_or ps i 0
-  given_next paid i e = joined_place ps (given i) e (length_given i)
+  pub given_next : (paid : List ℕ) (i : ℕ) → i ≤ live → paid ≡ joined_to ps (given i) → get_or paid i 0 ≡ get_or ps i 0
+  given_next paid i h e = joined_place ps (given i) e (length_given i h)
 
   -- and then its share is joined to it
-  pub given_more : (paid : List ℕ) (i share : ℕ) → paid ≡ joined_to ps (given i)
-      → share ≡ (winner_at words full j i).count * share_of p s (winner_at words full j i).stake + min (odd - winning_ways (winners_in words full j i)) (winner_at words full j i).count
+  pub given_more : (paid : List ℕ) (i share : ℕ) → i < live → paid ≡ joined_to ps (given i)
+      → share ≡ (winner_at words full j i).count * share_of p s (winner_at words full j i).stake + min (odd - ways_ahead winners i (winner_at words full j i).stake) (winner_at words full j i).count
       → set paid i (get_or paid i 0 + share) ≡ joined_to ps (given (i + 1))
-  given_more paid i share e shared =
-      joined_step ps (given i) e (length_given i) share
-      ∙ ap (λ n. joined_to ps (given i ++ (n ∷ []))) shared
-      ∙ ap (joined_to ps) (sym (shares_more odd p s (winners_in words full j i) (winner_at words full j i)))
-      ∙ ap (λ ws. joined_to ps (shares_from odd p s ws)) (sym (winners_more words full j i))
+  given_more paid i share h e shared =
+      let here : get_or winners i no_winner ≡ winner_at words full j i = winner_placed words full j live i h in
+      let own : get_or (shares_from odd p s winners) i 0 ≡ share =
+      share_at odd p s winners i (omega (arith, length_winners words full j live))
+      ∙ ap (λ (w : Winner). w.count * share_of p s w.stake + min (odd - ways_ahead winners i w.stake) w.count) here
+      ∙ sym shared in
+      joined_step ps (given i) e (length_given i (omega arith)) share
+      ∙ ap (λ n. joined_to ps (given i ++ (n ∷ []))) (sym own)
+      ∙ ap (joined_to ps) (sym (ap (λ n. take n (shares_from odd p s winners)) (add-one i) ∙ take-suc (shares_from odd p s winners) i 0 (omega (arith, length_all))))
 
-  pub given_all : (paid : List ℕ) (live : ℕ) → paid ≡ joined_to ps (given live) → length ps ≡ live → paid ≡ zip_with ◌+◌ ps (given live)
-  given_all paid live e all = joined_whole ps (given live) e (length_given live) all
+  pub given_all : (paid : List ℕ) → paid ≡ joined_to ps (given live) → length ps ≡ live → paid ≡ zip_with ◌+◌ ps (shares_from odd p s winners)
+  given_all paid e all =
+      joined_whole ps (shares_from odd p s winners) (e ∙ ap (joined_to ps) (ap (λ n. take n (shares_from odd p s winners)) (sym length_all) ∙ take-length (shares_from odd p s winners))) length_all all
 
 -- ---- the primary, won or not
 
@@ -426,24 +454,33 @@ module _ (game : ℕ) where
         each [] = refl
         each (t ∷ us) = cc (one t (runs_in game t), each us)
 
-    -- the shares of all tickets are those of the entries, spread
-    shares_spread : (odd p s : ℕ) (ts : List Ticket)
-        → shares_from odd p s (map winner_in ts) ≡ spread game (shares_from odd p s (winners_of ts)) ts
-    unfolding shares_from spread keep winner_of
-    shares_spread odd p s [] = refl
-    shares_spread odd p s (t ∷ ts) = go (runs_in game t) refl (λ left. shares_spread left p s ts)
+    -- the shares of all tickets are those of the entries, spread, since a ticket that does not run has no way that ranks before another's
+    shares_spread : (before : ℕ → ℕ) (odd p s : ℕ) (ts : List Ticket)
+        → shares_behind before odd p s (map winner_in ts) ≡ spread game (shares_behind before odd p s (winners_of ts)) ts
+    unfolding shares_behind spread keep winner_of
+    shares_spread before odd p s [] = refl
+    shares_spread before odd p s (t ∷ ts) = go (runs_in game t) refl (λ f. shares_spread f odd p s ts)
       where
+        stake : ℕ
+        stake = t.operands.stake
+
+        above : ways_above stake (map winner_in ts) ≡ ways_above stake (winners_of ts)
+        above = winners_sum (λ w. cond (ltb stake w.stake) w.count 0) (λ x. none_by (ltb stake x)) ts
+
         go : (b : Bool) → runs_in game t ≡ b
-            → ((left : ℕ) → shares_from left p s (map winner_in ts) ≡ spread game (shares_from left p s (winners_of ts)) ts)
-            → shares_from odd p s (record { count = cond b (winner_of j draw (entry_of game t)).count 0; stake = t.operands.stake } ∷ map winner_in ts)
-            ≡ spread game (shares_from odd p s (map (winner_of j draw) (map (entry_of game) (cond b (t ∷ keep (runs_in game) ts) (keep (runs_in game) ts))))) (t ∷ ts)
+            → ((f : ℕ → ℕ) → shares_behind f odd p s (map winner_in ts) ≡ spread game (shares_behind f odd p s (winners_of ts)) ts)
+            → shares_behind before odd p s (record { count = cond b (winner_of j draw (entry_of game t)).count 0; stake = stake } ∷ map winner_in ts)
+            ≡ spread game (shares_behind before odd p s (map (winner_of j draw) (map (entry_of game) (cond b (t ∷ keep (runs_in game) ts) (keep (runs_in game) ts))))) (t ∷ ts)
         go true e rest =
-            ap (◌∷◌ ((winner_of j draw (entry_of game t)).count * share_of p s t.operands.stake + min odd (winner_of j draw (entry_of game t)).count))
-            (rest (odd - (winner_of j draw (entry_of game t)).count))
+            let count : ℕ = (winner_of j draw (entry_of game t)).count in
+            ap₂ (λ (n : ℕ) (l : List ℕ). (count * share_of p s stake + min (odd - (before stake + n)) count) ∷ l) above
+            (rest (λ x. before x + cond (leb x stake) count 0))
             ∙ sym (spread_runs game _ _ t ts e)
         go false e rest =
-            let nothing : 0 * share_of p s t.operands.stake + min odd 0 ≡ 0 = omega (arith, zero-mul (share_of p s t.operands.stake)) in
-            cc (nothing, sub-zero odd, rest odd, spread_rests game (shares_from odd p s (winners_of ts)) t ts e)
+            let nothing : 0 * share_of p s stake + min (odd - (before stake + ways_above stake (map winner_in ts))) 0 ≡ 0 = omega (arith, zero-mul (share_of p s stake)) in
+            let same : (x : ℕ) → before x + cond (leb x stake) 0 0 ≡ before x = λ x. omega (arith, none_by (leb x stake)) in
+            ap₂ (λ (n : ℕ) (l : List ℕ). n ∷ l) nothing ((λ k. shares_behind (λ x. same x k) odd p s (map winner_in ts)) ∙ rest before)
+            ∙ sym (spread_rests game (shares_behind before odd p s (winners_of ts)) t ts e)
 
 module _ (game j : ℕ) (draw : Draw) where
   zeros_spread : (ts : List Ticket) → map (λ w. 0) (map (winner_in game j draw) ts) ≡ spread game (map (λ w. 0) (winners_of game j draw ts)) ts
@@ -481,7 +518,8 @@ module _ (game j : ℕ) (draw : Draw) where
         go : (won : Bool) (s odd : ℕ)
             → cond won (shares_from odd p s all) (map (λ w. 0) all)
             ≡ spread game (cond won (shares_from odd p s running) (map (λ w. 0) running)) ts
-        go true s odd = shares_spread game j draw odd p s ts
+        go true s odd =
+            shares_in_turn odd p s all ∙ shares_spread game j draw (λ x. 0) odd p s ts ∙ ap (λ (l : List ℕ). spread game l ts) (sym (shares_in_turn odd p s running))
         go false s odd = zeros_spread ts
 
 -- ---- the rows of a drawn game, with its full matches

@@ -1,9 +1,9 @@
 -- The live rows as the code walks over them to find a game's stakes and to share its jackpots: what each row of words says of its ticket, in the
 -- order of the rows. A ticket that does not run in the game has no full match, so that its row has a place here and wins nothing.
-use Rattle.std.specs.Prelude.{ℕ, ◌+◌, ◌≤◌, ◌<◌, ◌^◌, ◌≡◌, cond, List, [], map, eqb, get_or}
-use Rattle.sale.specs.Lists.{sum, below}
+use Rattle.std.specs.Prelude.{ℕ, ◌+◌, ◌≤◌, ◌<◌, ◌^◌, ◌≡◌, cond, List, [], map, eqb, length, get_or}
+use Rattle.sale.specs.Lists.{sum, below, keep}
 use Rattle.sale.specs.Price.{charge_limit}
-use Rattle.prizes.specs.Jackpots.{Winner, winning_stakes}
+use Rattle.prizes.specs.Jackpots.{Winner, winning_stakes, each_way, ranks_before}
 use Rattle.house.specs.Tickets.{runs_in, paid_stakes}
 use Rattle.house.specs.View.{row_at, ticket_in, Affordable}
 use Rattle.house.specs.declared.rows.Row.{Row}
@@ -38,6 +38,10 @@ winner_at words full j i = winner_from (row_at words i) (get_or full i 0) j
 
 unfoldable pub winners_in : List ℕ → List ℕ → ℕ → ℕ → List Winner
 winners_in words full j live = map (winner_at words full j) (below live)
+
+-- how many winning ways rank before those of the ticket at a place, which have such a stake
+abbrev pub ways_ahead : List Winner → ℕ → ℕ → ℕ
+ways_ahead ws place stake = length (keep (λ v. ranks_before v (record { place = place; stake = stake })) (each_way 0 ws))
 
 -- a jackpot's stakes among the first rows
 abbrev pub stakes_of : List ℕ → List ℕ → ℕ → JackpotKind → ℕ → Stakes

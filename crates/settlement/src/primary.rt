@@ -1,12 +1,11 @@
 // The primary of a jackpot, shared out in a drawn game. Rows are passed only where a way won.
-ghost use Rattle.std.specs.Prelude.{◌≡◌, ℕ, ◌+◌, ◌*◌, ◌<◌, ◌^◌, min, length, get_or};
+ghost use Rattle.std.specs.Prelude.{◌≡◌, ℕ, ◌+◌, ◌*◌, ◌-◌, ◌<◌, ◌^◌, cond, min, length, get_or};
 ghost use mathlib.Core.List.{zip_with};
 ghost use Rattle.sale.specs.Lists.{sum};
 ghost use Rattle.sale.specs.Kinds.{number_of};
-ghost use Rattle.prizes.specs.Bounds.{Sharing};
-ghost use Rattle.prizes.specs.Jackpots.{share_of, odd_cents, shares_from, jackpot_shares};
+ghost use Rattle.prizes.specs.Jackpots.{ranks_before, odd_cents, shares_from, jackpot_shares};
 ghost use Rattle.settlement.specs.Passing.{full_of};
-ghost use Rattle.settlement.specs.Sharing.{Shareable};
+ghost use Rattle.settlement.specs.Sharing.{ways_ahead, Shareable};
 
 use crate::ways::TicketWays;
 use house::rows::read_row;
@@ -32,7 +31,7 @@ pub(crate) struct Primary<'a> {
 }
 
 impl Primary<'_> {
-    ghost use Rattle.settlement.specs.Sharers.{sharer_at, sharers};
+    ghost use Rattle.settlement.specs.Sharers.{sharer_at, way_at, sharers, share_given};
 
     // The winning ways of the ticket at a place: its full matches, where it plays for the jackpot.
     fn winning_ways(&self, i: usize) -> WinningWays
@@ -52,16 +51,46 @@ impl Primary<'_> {
         }
     }
 
-    // What winning ways get, with those of the odd cents that are left for them. `Sharing` bounds the stake, so that `as` loses nothing: `try_from` would add
-    // an error that cannot be.
-    fn share(&self, ways: WinningWays, odd: u64) -> u64
-        requires { Sharing self.now.cents self.now.stakes ways.count ways.stake }
-        ensures { result ≡ ways.count * share_of self.now.cents self.now.stakes ways.stake + min odd ways.count }
+    // The winning ways of the ticket at one place, if they rank before those of the ticket at another, which have the given stake: by the larger stake, and of
+    // equal stakes by the earlier place. Rows stand in rising ticket number, so that an earlier place is a smaller number.
+    fn ranking_before(&self, i: usize, place: usize, stake: u64) -> u64
+        requires { i < length self.now.ways.now }
+        ensures { result ≡ cond (ranks_before (way_at self.now i) (record { place = place; stake = stake })) (sharer_at self.now i).count 0 }
     {
+        let ways = self.winning_ways(i);
+        if ways.stake > stake || (ways.stake == stake && i < place) {
+            ways.count
+        } else {
+            0
+        }
+    }
+
+    // How many winning ways are given an odd cent before those of the ticket at a place are.
+    fn ways_ahead(&self, place: usize, stake: u64) -> u64
+        ensures { result ≡ ways_ahead (sharers self.now) place stake }
+    {
+        (0..self.ways.len())
+            .map(|i| self.ranking_before(i, place, stake))
+            .sum()
+    }
+
+    // What the winning ways of the ticket at a place get, where there are so many odd cents to give. Without a winning way, or without an odd cent, nothing is
+    // ranked. The primary's stakes bound this one, so that `as` loses nothing: `try_from` would add an error that cannot be.
+    fn share_at(&self, i: usize, odd: u64) -> u64
+        requires place { i < length self.now.ways.now }
+        requires won { 0 < self.now.stakes }
+        ensures { result ≡ share_given self.now odd i }
+    {
+        let ways = self.winning_ways(i);
         if ways.count == 0 {
             return 0;
         }
-        ticket_share(odd, self.cents, self.stakes, ways.count, ways.stake as u32)
+        let left = if odd == 0 {
+            0
+        } else {
+            odd.saturating_sub(self.ways_ahead(i, ways.stake))
+        };
+        ticket_share(left, self.cents, self.stakes, ways.count, ways.stake as u32)
     }
 
     // The cents that rounding leaves: what there is above the shares with no odd cent.
@@ -69,24 +98,19 @@ impl Primary<'_> {
         requires won { 0 < self.now.stakes }
         ensures { result ≡ odd_cents self.now.cents self.now.stakes (sharers self.now) }
     {
-        let shared: u64 = (0..self.ways.len())
-            .map(|i| self.share(self.winning_ways(i), 0))
-            .sum();
+        let shared: u64 = (0..self.ways.len()).map(|i| self.share_at(i, 0)).sum();
         self.cents - shared
     }
 
-    // The shares joined to what each ticket is paid, with the odd cents to the first ways.
+    // The shares joined to what each ticket is paid, with the odd cents to the ways of the larger stakes.
     fn add_shares(&self, odd: u64, paid: &mut [u64])
         requires won { 0 < self.now.stakes }
         requires places { length paid.old ≡ length self.now.ways.now }
         requires room { (i : ℕ) → i < length self.now.ways.now → get_or paid.old i 0 < 2 ^ 63 }
         ensures { paid.new ≡ zip_with ◌+◌ paid.old (shares_from odd self.now.cents self.now.stakes (sharers self.now)) }
     {
-        let mut left = odd;
         for (i, paid) in paid.iter_mut().enumerate() {
-            let ways = self.winning_ways(i);
-            *paid += self.share(ways, left);
-            left = left.saturating_sub(ways.count);
+            *paid += self.share_at(i, odd);
         }
     }
 

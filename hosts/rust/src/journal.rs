@@ -22,7 +22,7 @@ pub const JOURNAL_FORMAT: u32 = 1;
 /// The version of the rules. Whatever changes the answer to some bytes raises it,
 /// and a journal of other rules is refused. A new command does not: no journal had
 /// its byte, so that all are answered as before.
-pub const RULES: u32 = 2;
+pub const RULES: u32 = 3;
 
 /// Bytes of the longest roll that a [`JournaledLounge`] takes at once.
 pub const LONGEST_ROLL: usize = 0xFF_FFFF;

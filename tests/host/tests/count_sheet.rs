@@ -8,7 +8,7 @@ use reference::command::length;
 use reference::roll::{read_answer, ANSWER_BYTES};
 use reference::till::balances;
 use reference::{Cents, Command, CountSheet};
-use rolls::{lucky_last, mixed, scenarios};
+use rolls::{lucky_last, mixed, odd_cents, scenarios};
 use side_by_side::{jackpot, reference_jackpot};
 use std::collections::HashSet;
 use wulipday::{Lounge, Stop};
@@ -58,6 +58,10 @@ fn the_sheet_after_every_command() {
     rolls.extend(scenarios::cancels(1998));
     rolls.extend(lucky_last::numbers(1998));
     rolls.extend(lucky_last::beside_cuts(1998));
+    rolls.extend(odd_cents::winners(1998));
+    rolls.extend(odd_cents::ways(1998));
+    rolls.extend(odd_cents::apart(1998));
+    rolls.extend(odd_cents::free_games(1998));
     for roll in rolls {
         let mut count = Count::fresh();
         let mut unread = &roll[..];

@@ -1,6 +1,6 @@
 //! Document 01's printed roll and settled examples on the proved core alone,
-//! with the document's own figures, the dates of a year by the calendar, and the
-//! last ball of a ticket with a feature.
+//! with the document's own figures, the dates of a year by the calendar, the last
+//! ball of a ticket with a feature, and odd jackpot cents by stake.
 
 use reference::roll::{read_answer, ANSWER_BYTES};
 use reference::{Answer, Command, Sale};
@@ -159,7 +159,27 @@ fn jackpots() {
     assert_eq!(desk.lounge.till().seeds, 1_350_000 + 99_995);
     assert_eq!(desk.lounge.pools().six.debt, 199_990);
     let two = [(1, 100, numbers(6, 0)), (1, 200, numbers(6, 0))];
-    settles(&two, 100_045, &[33_349, 66_696]);
+    settles(&two, 100_045, &[33_348, 66_697]);
+    let three = [100, 300, 200].map(|stake| (1, stake, numbers(6, 0)));
+    settles(&three, 100_090, &[16_681, 50_046, 33_363]);
+}
+
+/// Ten ways at 200, three at 300 and one at 500: of 6 odd cents the last ticket has
+/// one, the second one a way, and the first the rest.
+#[test]
+fn odd_cents_by_the_stake_of_a_way() {
+    let mut desk = Desk::on_day_one();
+    let numbers = numbers(10, 0);
+    let pairs: Vec<&[u8]> = numbers.chunks(2).collect();
+    let triplets: Vec<&[u8]> = numbers[..9].chunks(3).collect();
+    desk.give(Command::sell(1, 1, 200, &pairs, 0b100));
+    desk.give(Command::sell(1, 1, 300, &triplets, 0b10));
+    desk.straight(1, 500, &numbers[..6]);
+    assert_eq!(desk.draw(), 100_510);
+    let shares = [10 * 5_912 + 2, 3 * 8_868 + 3, 14_780 + 1];
+    for (ticket, cents) in (1..).zip(shares) {
+        assert_eq!(desk.claim(ticket), Answer::accepted(ticket, cents), "ticket {ticket}");
+    }
 }
 
 #[test]

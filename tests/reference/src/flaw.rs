@@ -18,7 +18,12 @@ pub enum Flaw {
     /// Jackpot contributions are made at the sale, for all paid games, and not
     /// as the games are drawn.
     PoolsAtSale,
-    /// The odd cents of a shared jackpot go to the last winning ways.
+    /// The odd cents of a shared jackpot go to winning ways by ticket number,
+    /// whatever their stakes.
+    OddCentsByTicket,
+    /// They go to winning ways by stake, the smaller first.
+    OddCentsToSmaller,
+    /// They go to the last ways of the true order.
     OddCentsToLast,
     /// The live list begins with the highest number.
     FallingLiveList,
@@ -38,11 +43,13 @@ pub enum Flaw {
 
 impl Flaw {
     /// The flaws proper, without [`Flaw::None`].
-    pub const ALL: [Flaw; 12] = [
+    pub const ALL: [Flaw; 14] = [
         Flaw::SettlesOneGameMore,
         Flaw::OneCutRound,
         Flaw::CappedJackpot,
         Flaw::PoolsAtSale,
+        Flaw::OddCentsByTicket,
+        Flaw::OddCentsToSmaller,
         Flaw::OddCentsToLast,
         Flaw::FallingLiveList,
         Flaw::YearOf365Days,

@@ -3,6 +3,7 @@
 use crate::flaw::Flaw;
 use crate::prizes::CAP;
 use crate::Cents;
+use std::cmp::Reverse;
 
 /// One jackpot: three pools and what it owes the house for its seeds.
 #[derive(Clone, Debug, PartialEq, Eq)]
@@ -92,12 +93,12 @@ impl Jackpots {
 }
 
 /// Shares a primary among winning ways by their stakes, given in ticket order:
-/// rounded down, then the odd cents one to each, from the first way on.
+/// rounded down, then the odd cents one to each, larger stakes first.
 pub fn shares(primary: Cents, stakes: &[Cents], flaw: Flaw) -> Vec<Cents> {
     let all_stakes: Cents = stakes.iter().sum();
     let mut shares: Vec<Cents> = stakes.iter().map(|stake| primary * stake / all_stakes).collect();
     let odd_cents = primary - shares.iter().sum::<Cents>();
-    give_odd_cents(&mut shares, odd_cents as usize, flaw);
+    give_odd_cents(&mut shares, odd_cents as usize, stakes, flaw);
     if flaw == Flaw::CappedJackpot {
         shares.iter_mut().for_each(|share| *share = (*share).min(CAP));
     }
@@ -105,10 +106,23 @@ pub fn shares(primary: Cents, stakes: &[Cents], flaw: Flaw) -> Vec<Cents> {
 }
 
 /// Rounding down leaves fewer odd cents than there are winning ways.
-fn give_odd_cents(shares: &mut [Cents], odd_cents: usize, flaw: Flaw) {
-    if flaw == Flaw::OddCentsToLast {
-        shares.iter_mut().rev().take(odd_cents).for_each(|share| *share += 1);
-    } else {
-        shares.iter_mut().take(odd_cents).for_each(|share| *share += 1);
+fn give_odd_cents(shares: &mut [Cents], odd_cents: usize, stakes: &[Cents], flaw: Flaw) {
+    for way in order_of_odd_cents(stakes, flaw).into_iter().take(odd_cents) {
+        shares[way] += 1;
     }
+}
+
+/// The winning ways by their stakes, larger first. Sorting keeps ways of equal
+/// stakes as they were given, in ticket order.
+fn order_of_odd_cents(stakes: &[Cents], flaw: Flaw) -> Vec<usize> {
+    let mut ways: Vec<usize> = (0..stakes.len()).collect();
+    match flaw {
+        Flaw::OddCentsByTicket => {}
+        Flaw::OddCentsToSmaller => ways.sort_by_key(|&way| stakes[way]),
+        _ => ways.sort_by_key(|&way| Reverse(stakes[way])),
+    }
+    if flaw == Flaw::OddCentsToLast {
+        ways.reverse();
+    }
+    ways
 }

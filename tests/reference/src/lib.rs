@@ -12,6 +12,7 @@
 //! | Price                               | [`price`]                        |
 //! | Prizes, and rule book section 18    | [`prizes`], [`schedule`]         |
 //! | Jackpots                            | [`jackpots`], [`settlement`]     |
+//! | Odd jackpot cents, asked since      | [`jackpots`]                     |
 //! | Lucky Last, asked since             | [`draw`], [`price`], [`prizes`], [`schedule`] |
 //! | The house: commands                 | [`command`], [`ticket`], [`house`] |
 //! | The house: till                     | [`till`]                         |

@@ -1,5 +1,6 @@
 //! Rules 12.3 to 12.6 on lists that no example has: the cut against another way
-//! to work it out, and shares that come to the primary to the cent.
+//! to work it out, and shares that come to the primary to the cent, the odd cents
+//! by stake.
 
 use reference::jackpots::shares;
 use reference::prizes::{cut, MAJOR, MAJORS_TOGETHER};
@@ -71,16 +72,49 @@ fn by_rounds_and_one_by_one() {
 #[test]
 fn shares_come_to_the_primary() {
     let mut numbers = Numbers(7);
+    let mut ends_within_a_stake = 0;
     for _game in 0..4_000 {
         let primary = 100_000 + Cents::from(numbers.below(1 << 40));
         let count = 1 + numbers.below(300);
+        // Up to one stake for all, three, a hundred, or any.
+        let most = [1, 3, 100, 9_999][numbers.below(4) as usize];
         let stakes: Vec<Cents> =
-            (0..count).map(|_| 100 * (1 + Cents::from(numbers.below(9_999)))).collect();
-        let all: Cents = stakes.iter().sum();
+            (0..count).map(|_| 100 * (1 + Cents::from(numbers.below(most)))).collect();
         let shares = shares(primary, &stakes, Flaw::None);
         assert_eq!(shares.iter().sum::<Cents>(), primary);
-        let mut odd_cents = shares.iter().zip(&stakes).map(|(s, stake)| s - primary * stake / all);
-        // One cent each up to some way, and none from there on.
-        assert!(odd_cents.by_ref().skip_while(|&cent| cent == 1).all(|cent| cent == 0));
+        let (with, without) = with_and_without_an_odd_cent(primary, &stakes, &shares);
+        // Whoever has a cent comes before everybody who has none.
+        for &(place, stake) in &with {
+            let is_before = |&(other, smaller): &(usize, Cents)| {
+                stake > smaller || stake == smaller && place < other
+            };
+            assert!(without.iter().all(is_before), "{primary}: {stakes:?}");
+        }
+        let same_stake = |&(_, stake): &(usize, Cents)| without.iter().any(|way| way.1 == stake);
+        ends_within_a_stake += usize::from(with.iter().any(same_stake));
     }
+    // Or the places would not have been tried.
+    assert!(ends_within_a_stake > 2_000, "{ends_within_a_stake}");
+}
+
+/// Winning ways by their places and stakes.
+type Ways = Vec<(usize, Cents)>;
+
+/// The ways that have an odd cent, and those that have none. None has more.
+fn with_and_without_an_odd_cent(
+    primary: Cents,
+    stakes: &[Cents],
+    shares: &[Cents],
+) -> (Ways, Ways) {
+    assert_eq!(shares.len(), stakes.len());
+    let all: Cents = stakes.iter().sum();
+    let (mut with, mut without) = (Ways::new(), Ways::new());
+    for (place, (&stake, share)) in stakes.iter().zip(shares).enumerate() {
+        match share - primary * stake / all {
+            1 => with.push((place, stake)),
+            0 => without.push((place, stake)),
+            odd => panic!("{odd} odd cents: {primary}: {stakes:?}"),
+        }
+    }
+    (with, without)
 }

@@ -16,7 +16,15 @@ fn must_find(flaw: Flaw) -> &'static [&'static str] {
         Flaw::PoolsAtSale => {
             &["a cancel leaves nothing in the pools", "each drawn game contributes by itself"]
         }
-        Flaw::OddCentsToLast => &["sixes at 100 and 200 hit", "odd cents go to the first ways"],
+        Flaw::OddCentsByTicket => {
+            &["sixes at 100, 300 and 200 hit", "odd cents end among the larger ways"]
+        }
+        Flaw::OddCentsToSmaller => {
+            &["sixes at 100 and 200 hit", "odd cents pass on to smaller ways"]
+        }
+        Flaw::OddCentsToLast => {
+            &["odd cents of one stake go to the first ways", "equal stakes by ticket number"]
+        }
         Flaw::FallingLiveList => &["the live list rises"],
         Flaw::YearOf365Days => &["finished on 1 March 1999", "finished about 29 February 2000"],
         Flaw::EveryFourthYearLeaps => &["finished about February 2100", "finished about 2104"],

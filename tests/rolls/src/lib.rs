@@ -11,11 +11,13 @@
 //! | Cuts, jackpots, Keno To Go, cancels, expiry  | [`scenarios`]  |
 //! | The end of every February, as asked since    | [`scenarios`]  |
 //! | Lucky Last, as asked since                   | [`lucky_last`] |
+//! | Odd jackpot cents by stake, as asked since   | [`odd_cents`]  |
 //! | All of it at once, refusals included         | [`mixed`]      |
 //! | The roll, when it is damaged or cut off      | [`damaged`]    |
 //! | The limits of 9,999,999                      | [`far_games`]  |
 //! | Every refusal and stop is met                | [`coverage`]   |
 //! | Every outcome of a feature is met            | [`features`]   |
+//! | Who shares a jackpot, and its odd cents      | [`sharing`]    |
 
 pub mod coverage;
 pub mod damaged;
@@ -23,9 +25,11 @@ pub mod far_games;
 pub mod features;
 pub mod lucky_last;
 pub mod mixed;
+pub mod odd_cents;
 pub mod random;
 pub mod scenarios;
 pub mod shapes;
+pub mod sharing;
 pub mod sweeps;
 pub mod writer;
 
@@ -33,6 +37,7 @@ pub use coverage::Coverage;
 pub use far_games::FarGames;
 pub use features::Features;
 pub use random::Random;
+pub use sharing::Sharing;
 pub use writer::RollWriter;
 
 /// A roll and what it is for.
@@ -63,6 +68,10 @@ pub fn everything(seed: u64) -> Vec<NamedRoll> {
         ("feature operands", lucky_last::operands()),
         ("feature charges", lucky_last::charges()),
         ("features beside cuts", lucky_last::beside_cuts(seed)),
+        ("odd cents", odd_cents::winners(seed)),
+        ("odd cents of ways", odd_cents::ways(seed)),
+        ("odd cents apart", odd_cents::apart(seed)),
+        ("odd cents of free games", odd_cents::free_games(seed)),
         ("mixed", mixed::mixed_set(seed, 60, 1_000)),
         ("overlong", mixed::overlong(seed)),
         ("damaged", damaged::damaged_set(seed, 120)),

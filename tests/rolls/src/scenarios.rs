@@ -116,7 +116,7 @@ fn shared_jackpot_games(random: &mut Random) -> Vec<u8> {
 }
 
 /// A jackpot ticket on numbers most of which will be drawn.
-fn jackpot_ticket(writer: &mut RollWriter, random: &mut Random, numbers: &[u8]) {
+pub(crate) fn jackpot_ticket(writer: &mut RollWriter, random: &mut Random, numbers: &[u8]) {
     let (size, count) = if random.percent(50) { random.pick(&SIXES) } else { random.pick(&EIGHTS) };
     let mut shape = shapes::jackpot_of(random, size, count);
     shape.sizes.truncate((20 / size).max(count));

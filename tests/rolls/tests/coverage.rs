@@ -4,7 +4,7 @@
 use reference::command::{BALL, CLAIM, LUCKY_LAST, SELL};
 use reference::House;
 use rolls::coverage::FAR_CODES;
-use rolls::{damaged, everything, mixed, scenarios, Coverage, Features};
+use rolls::{damaged, everything, mixed, odd_cents, scenarios, Coverage, Features};
 
 const SEED: u64 = 1998;
 
@@ -66,5 +66,6 @@ fn the_same_seed_makes_the_same_rolls() {
     assert_eq!(mixed::mixed_set(SEED, 3, 500), mixed::mixed_set(SEED, 3, 500));
     assert_eq!(damaged::damaged_set(SEED, 20), damaged::damaged_set(SEED, 20));
     assert_eq!(scenarios::crowded_cuts(SEED), scenarios::crowded_cuts(SEED));
+    assert_eq!(odd_cents::winners(SEED), odd_cents::winners(SEED));
     assert_ne!(mixed::mixed(1, 100), mixed::mixed(2, 100));
 }

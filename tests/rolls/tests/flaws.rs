@@ -4,7 +4,7 @@
 
 use reference::ledger::{ledger, ledger_of};
 use reference::{Flaw, House};
-use rolls::{lucky_last, mixed, scenarios};
+use rolls::{lucky_last, mixed, odd_cents, scenarios};
 
 const SEED: u64 = 1998;
 
@@ -23,6 +23,8 @@ fn scenarios_find_their_flaws() {
         (Flaw::PoolsAtSale, scenarios::keno_to_go(SEED)),
         (Flaw::OddCentsToLast, scenarios::shared_jackpots(SEED)),
         (Flaw::OddCentsToLast, scenarios::transfers(SEED)),
+        (Flaw::OddCentsByTicket, scenarios::shared_jackpots(SEED)),
+        (Flaw::OddCentsToSmaller, scenarios::shared_jackpots(SEED)),
         (Flaw::YearOf365Days, scenarios::expiries(SEED)),
         (Flaw::YearOf365Days, scenarios::februaries(SEED)),
         (Flaw::EveryFourthYearLeaps, scenarios::expiries(SEED)),
@@ -37,6 +39,22 @@ fn scenarios_find_their_flaws() {
     ];
     for (flaw, rolls) in sets {
         assert!(finds(flaw, &rolls), "{flaw:?}");
+    }
+}
+
+/// Each of the sets finds each of the wrong orders.
+#[test]
+fn odd_cents_in_another_order_are_found() {
+    let sets = [
+        odd_cents::winners(SEED),
+        odd_cents::ways(SEED),
+        odd_cents::apart(SEED),
+        odd_cents::free_games(SEED),
+    ];
+    for flaw in [Flaw::OddCentsByTicket, Flaw::OddCentsToSmaller, Flaw::OddCentsToLast] {
+        for (place, rolls) in sets.iter().enumerate() {
+            assert!(finds(flaw, rolls), "{flaw:?}, set {place}");
+        }
     }
 }
 

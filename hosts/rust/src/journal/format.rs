@@ -212,9 +212,9 @@ mod tests {
     #[test]
     fn other_versions_are_refused_by_name() {
         let earlier = header_of(JOURNAL_FORMAT, RULES - 1);
-        assert_eq!(refused(&earlier), "a journal of rules 1: expected rules 2");
+        assert_eq!(refused(&earlier), "a journal of rules 2: expected rules 3");
         let later = header_of(JOURNAL_FORMAT, RULES + 1);
-        assert_eq!(refused(&later), "a journal of rules 3: expected rules 2");
+        assert_eq!(refused(&later), "a journal of rules 4: expected rules 3");
         let other = header_of(JOURNAL_FORMAT + 1, RULES + 1);
         assert_eq!(refused(&other), "a journal of format 2: expected format 1");
         assert_eq!(refused(&[1, 0, 1]), "byte 0: no journal: expected \"wulipday journal\"");

@@ -91,6 +91,24 @@ fn another_live_list_is_seen() {
     }
 }
 
+/// And odd cents that go elsewhere: by number alone, by stake with the smaller
+/// first, both to one way, and to the last of equal stakes.
+#[test]
+fn other_odd_cents_are_seen() {
+    let others = [
+        ("| 33,348; 66,697 |", "| 33,349; 66,696 |"),
+        ("| 16,681; 50,046; 33,363 |", "| 16,682; 50,045; 33,363 |"),
+        ("| 142,857; 285,716; 428,573; 142,857 |", "| 142,858; 285,715; 428,572; 142,858 |"),
+        ("| 142,857; 285,716; 428,573; 142,857 |", "| 142,857; 285,715; 428,574; 142,857 |"),
+        ("| 333,334; 333,334; 333,333 |", "| 333,333; 333,334; 333,334 |"),
+    ];
+    for (shares, other) in others {
+        let damaged = PROTOCOL.replacen(shares, other, 1);
+        assert!(damaged != PROTOCOL, "{shares}");
+        assert!(check(&Document::of(&damaged)).is_err(), "{other}");
+    }
+}
+
 #[test]
 fn other_names_are_seen() {
     let others = [

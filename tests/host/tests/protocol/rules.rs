@@ -141,7 +141,7 @@ pub fn jackpots(document: &Document) -> Checked {
     same("guarantees", &guarantees[..], &expected)?;
     contributions(document)?;
     let rows = document.table("Primary pool", "Stakes");
-    same("shares", rows.len(), 3)?;
+    same("shares", rows.len(), 5)?;
     for row in rows {
         let found = shares(number(row[0])?, &numbers(row[1])?, Flaw::None);
         same("shares", numbers(row[2])?, found)?;

@@ -1,4 +1,5 @@
-//! "Settled examples": every line with a dot, and the printed ledger.
+//! "Settled examples": every line with a dot, with those changed and asked for
+//! since, and the printed ledger.
 
 use super::*;
 use reference::ledger::ledger_of;
@@ -13,6 +14,7 @@ pub const ALL: &[NamedCheck] = &[
     ("251 equal majors", equal_majors_251),
     ("one six hits", one_six_hits),
     ("sixes at 100 and 200 hit", sixes_at_100_and_200_hit),
+    ("sixes at 100, 300 and 200 hit", sixes_at_100_300_and_200_hit),
     ("printed ledger", printed_ledger),
 ];
 
@@ -114,15 +116,26 @@ pub fn one_six_hits(flaw: Flaw) -> Check {
     desk.difference
 }
 
-/// Fresh house, sixes at 100 and 200 hit: 33,349 and 66,696 (ticket 1 has the
-/// smaller).
+/// Fresh house, sixes at 100 and 200 hit: 33,348 and 66,697 (ticket 1 has the
+/// smaller). The odd cent goes to the larger stake.
 pub fn sixes_at_100_and_200_hit(flaw: Flaw) -> Check {
     let mut desk = Desk::new(flaw);
     let smaller = desk.straight(1, 1, 100, &[1, 2, 3, 4, 5, 6]);
     let larger = desk.straight(1, 1, 200, &[7, 8, 9, 10, 11, 12]);
     expect("twentieth ball", desk.draw(&FIRST_TWENTY).cents, 100_045)?;
-    expect("ticket 1", desk.pays(smaller), 33_349)?;
-    expect("ticket 2", desk.pays(larger), 66_696)?;
+    expect("ticket 1", desk.pays(smaller), 33_348)?;
+    expect("ticket 2", desk.pays(larger), 66_697)?;
+    desk.difference
+}
+
+/// The same with a third: the largest stake is the second by number.
+pub fn sixes_at_100_300_and_200_hit(flaw: Flaw) -> Check {
+    let mut desk = Desk::new(flaw);
+    let tickets = [100, 300, 200].map(|stake| desk.straight(1, 1, stake, &[1, 2, 3, 4, 5, 6]));
+    expect("twentieth ball", desk.draw(&FIRST_TWENTY).cents, 100_090)?;
+    for (ticket, share) in tickets.into_iter().zip([16_681, 50_046, 33_363]) {
+        expect(&format!("ticket {ticket}"), desk.pays(ticket), share)?;
+    }
     desk.difference
 }
 

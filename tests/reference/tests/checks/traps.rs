@@ -14,13 +14,20 @@ pub const ALL: &[NamedCheck] = &[
     ("a jackpot ticket's prize is not capped", a_jackpot_tickets_prize_is_not_capped),
     ("a jackpot share is not capped", a_jackpot_share_is_not_capped),
     ("other kinds are capped", other_kinds_are_capped),
-    ("odd cents go to the first ways", odd_cents_go_to_the_first_ways),
+    ("odd cents of one stake go to the first ways", odd_cents_of_one_stake_go_to_the_first_ways),
+    ("equal stakes by ticket number", equal_stakes_by_ticket_number),
+    ("odd cents end among the larger ways", odd_cents_end_among_the_larger_ways),
+    ("odd cents pass on to smaller ways", odd_cents_pass_on_to_smaller_ways),
     ("free games play but give none", free_games_play_but_give_none),
     ("the live list rises", the_live_list_rises),
 ];
 
 const EIGHT: [u8; 8] = [1, 2, 3, 4, 5, 6, 7, 8];
 const SIX: [u8; 6] = [1, 2, 3, 4, 5, 6];
+/// Three at a time they make ten ways of six, and the first four of them four.
+const PAIRS: Groups = &[&[1, 2], &[3, 4], &[5, 6], &[7, 8], &[9, 10]];
+/// Two at a time they make three.
+const TRIPLETS: Groups = &[&[1, 2, 3], &[4, 5, 6], &[7, 8, 9]];
 const FIFTEEN: [u8; 15] = [1, 2, 3, 4, 5, 6, 7, 8, 9, 10, 11, 12, 13, 14, 15];
 
 /// The foreman's fear: a ticket for games 93 to 97 takes nothing from 98, where
@@ -160,15 +167,55 @@ pub fn other_kinds_are_capped(flaw: Flaw) -> Check {
 
 /// Four winning ways on the first ticket and three on the second share
 /// 100,000 + 7 × 15 = 100,105: 14,300 each and 5 odd cents.
-pub fn odd_cents_go_to_the_first_ways(flaw: Flaw) -> Check {
+pub fn odd_cents_of_one_stake_go_to_the_first_ways(flaw: Flaw) -> Check {
     let mut desk = Desk::new(flaw);
-    let pairs: Groups = &[&[1, 2], &[3, 4], &[5, 6], &[7, 8]];
-    let four_ways = desk.sell(1, 1, 100, pairs, 0b100).number;
-    let triplets: Groups = &[&[1, 2, 3], &[4, 5, 6], &[7, 8, 9]];
-    let three_ways = desk.sell(1, 1, 100, triplets, 0b10).number;
+    let four_ways = desk.sell(1, 1, 100, &PAIRS[..4], 0b100).number;
+    let three_ways = desk.sell(1, 1, 100, TRIPLETS, 0b10).number;
     expect("twentieth ball", desk.draw(&FIRST_TWENTY).cents, 100_105)?;
     expect("four ways", desk.pays(four_ways), 4 * 14_300 + 4)?;
     expect("three ways", desk.pays(three_ways), 3 * 14_300 + 1)?;
+    desk.difference
+}
+
+/// One six at 100 and then three at 200 share 100,105: a seventh is 14,300 and a
+/// bit, two are 28,601 and a bit, and 2 cents are odd.
+pub fn equal_stakes_by_ticket_number(flaw: Flaw) -> Check {
+    let mut desk = Desk::new(flaw);
+    let tickets = [100, 200, 200, 200].map(|stake| desk.straight(1, 1, stake, &SIX));
+    expect("twentieth ball", desk.draw(&FIRST_TWENTY).cents, 100_105)?;
+    for (ticket, share) in tickets.into_iter().zip([14_300, 28_602, 28_602, 28_601]) {
+        expect(&format!("ticket {ticket}"), desk.pays(ticket), share)?;
+    }
+    desk.difference
+}
+
+/// Three ways at 100, four at 300 and one at 200 share 100,255: 2 odd cents, both
+/// for ways of the second ticket.
+pub fn odd_cents_end_among_the_larger_ways(flaw: Flaw) -> Check {
+    let mut desk = Desk::new(flaw);
+    let three_ways = desk.sell(1, 1, 100, TRIPLETS, 0b10).number;
+    let four_ways = desk.sell(1, 1, 300, &PAIRS[..4], 0b100).number;
+    let one_way = desk.straight(1, 1, 200, &SIX);
+    expect("twentieth ball", desk.draw(&FIRST_TWENTY).cents, 100_255)?;
+    expect("at 100", desk.pays(three_ways), 3 * 5_897)?;
+    expect("at 300", desk.pays(four_ways), 4 * 17_692 + 2)?;
+    expect("at 200", desk.pays(one_way), 11_794)?;
+    desk.difference
+}
+
+/// Ten ways at 200, three at 300 and one at 500 share 100,510: of 6 odd cents the
+/// last ticket has one and the second three, one a way, and the first has the rest,
+/// though it cost the most.
+pub fn odd_cents_pass_on_to_smaller_ways(flaw: Flaw) -> Check {
+    let mut desk = Desk::new(flaw);
+    let ten_ways = desk.sell(1, 1, 200, PAIRS, 0b100);
+    expect("charge", ten_ways.cents, 2_000)?;
+    let three_ways = desk.sell(1, 1, 300, TRIPLETS, 0b10).number;
+    let one_way = desk.straight(1, 1, 500, &SIX);
+    expect("twentieth ball", desk.draw(&FIRST_TWENTY).cents, 100_510)?;
+    expect("at 200", desk.pays(ten_ways.number), 10 * 5_912 + 2)?;
+    expect("at 300", desk.pays(three_ways), 3 * 8_868 + 3)?;
+    expect("at 500", desk.pays(one_way), 14_780 + 1)?;
     desk.difference
 }
 

@@ -2,7 +2,7 @@
 
 use crate::case::{singles, twenty, Case};
 use reference::command::length;
-use rolls::{scenarios, Random, RollWriter};
+use rolls::{scenarios, Random, RollWriter, Sharing};
 
 /// Small tickets, and 200 tickets whose major prizes are cut. The uncut ones of
 /// 255 ways are among the cases of growth.
@@ -12,6 +12,8 @@ pub fn cases() -> Vec<Case> {
         one_way(),
         one_way_with_a_feature(),
         three_groups(),
+        one_way_sharing(),
+        ways_sharing(),
         last_ball("settlement, 200 x 255 ways, cut in 4 rounds", &crowded[1]),
         majors(249),
         majors(250),
@@ -47,6 +49,37 @@ fn three_groups() -> Case {
         let groups: Vec<&[u8]> = numbers[..6].chunks(2).collect();
         writer.sell(0, 1, 50, &groups, 3);
     })
+}
+
+/// One group of six numbers, all drawn.
+fn one_way_sharing() -> Case {
+    sharing("settlement, 200 x 1 way, all sharing a jackpot", |writer, stake, numbers| {
+        writer.straight(1, 1, stake, &numbers[..6]);
+    })
+}
+
+/// Eight numbers, all drawn, six at a time.
+fn ways_sharing() -> Case {
+    sharing("settlement, 200 x 28 ways, all sharing a jackpot", |writer, stake, numbers| {
+        writer.sell(1, 1, stake, &singles(&numbers[..8]), 0b10_0000);
+    })
+}
+
+/// 200 tickets that have no number but the balls, at 200 stakes in no order.
+fn sharing(name: &str, sell: impl Fn(&mut RollWriter, u32, &[u8])) -> Case {
+    let mut random = Random::new(1);
+    let mut stakes: Vec<u32> = (1..=200).map(|dollars| 100 * dollars).collect();
+    random.shuffle(&mut stakes);
+    let mut writer = RollWriter::opened();
+    for stake in stakes {
+        let mut numbers = twenty();
+        random.shuffle(&mut numbers);
+        sell(&mut writer, stake, &numbers);
+    }
+    let sharing = Sharing::of(writer.house(), &twenty(), 6);
+    assert_eq!((sharing.winners.len(), sharing.largest_ways()), (200, sharing.ways() / 200));
+    writer.balls(&twenty());
+    last_ball(name, &writer.finish())
 }
 
 /// Tickets that have these two balls first and no other ball.
