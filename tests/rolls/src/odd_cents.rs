@@ -140,11 +140,16 @@ fn other_ticket(writer: &mut RollWriter, random: &mut Random, numbers: &[u8]) {
     };
 }
 
+/// A roll for each number of odd cents that is aimed at.
+fn a_roll_each(seed: u64, roll: fn(&mut Random, OddCents) -> Vec<u8>) -> Vec<Vec<u8>> {
+    let mut random = Random::new(seed);
+    ODD_CENTS.map(|odd_cents| roll(&mut random, odd_cents)).to_vec()
+}
+
 /// Tickets with up to seventy ways, of which all win, some or none; mostly both
 /// jackpots are won at once.
 pub fn ways(seed: u64) -> Vec<Vec<u8>> {
-    let mut random = Random::new(seed ^ 0x3A75);
-    ODD_CENTS.map(|odd_cents| games_of_ways(&mut random, odd_cents)).to_vec()
+    a_roll_each(seed ^ 0x3A75, games_of_ways)
 }
 
 fn games_of_ways(random: &mut Random, odd_cents: OddCents) -> Vec<u8> {
@@ -162,8 +167,7 @@ fn games_of_ways(random: &mut Random, odd_cents: OddCents) -> Vec<u8> {
 /// Winners whose numbers lie apart: between them stand tickets that have won before
 /// and are not claimed, some of them cancelled since, and tickets that run and lose.
 pub fn apart(seed: u64) -> Vec<Vec<u8>> {
-    let mut random = Random::new(seed ^ 0xA9A7);
-    ODD_CENTS.map(|odd_cents| games_apart(&mut random, odd_cents)).to_vec()
+    a_roll_each(seed ^ 0xA9A7, games_apart)
 }
 
 fn games_apart(random: &mut Random, odd_cents: OddCents) -> Vec<u8> {
@@ -207,8 +211,7 @@ fn winners_apart(writer: &mut RollWriter, random: &mut Random, odd_cents: OddCen
 /// Keno To Go tickets in a free game, with stakes above and below those of tickets
 /// that pay for it.
 pub fn free_games(seed: u64) -> Vec<Vec<u8>> {
-    let mut random = Random::new(seed ^ 0xF4EE);
-    ODD_CENTS.map(|odd_cents| free_game(&mut random, odd_cents)).to_vec()
+    a_roll_each(seed ^ 0xF4EE, free_game)
 }
 
 fn free_game(random: &mut Random, odd_cents: OddCents) -> Vec<u8> {

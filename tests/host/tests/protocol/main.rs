@@ -91,6 +91,15 @@ fn another_live_list_is_seen() {
     }
 }
 
+/// The first of each two texts stands on the page, and the second in its place fails.
+fn are_seen(others: &[(&str, &str)]) {
+    for (text, other) in others {
+        let damaged = PROTOCOL.replacen(text, other, 1);
+        assert!(damaged != PROTOCOL, "{text}");
+        assert!(check(&Document::of(&damaged)).is_err(), "{other}");
+    }
+}
+
 /// And odd cents that go elsewhere: by number alone, by stake with the smaller
 /// first, both to one way, and to the last of equal stakes.
 #[test]
@@ -102,11 +111,7 @@ fn other_odd_cents_are_seen() {
         ("| 142,857; 285,716; 428,573; 142,857 |", "| 142,857; 285,715; 428,574; 142,857 |"),
         ("| 333,334; 333,334; 333,333 |", "| 333,333; 333,334; 333,334 |"),
     ];
-    for (shares, other) in others {
-        let damaged = PROTOCOL.replacen(shares, other, 1);
-        assert!(damaged != PROTOCOL, "{shares}");
-        assert!(check(&Document::of(&damaged)).is_err(), "{other}");
-    }
+    are_seen(&others);
 }
 
 #[test]
@@ -124,9 +129,5 @@ fn other_names_are_seen() {
         ("| 29 February 2000 |", "| 29 January 2000 |"),
         ("| 5 June 2177 |", "| 5 July 2177 |"),
     ];
-    for (text, other) in others {
-        let damaged = PROTOCOL.replacen(text, other, 1);
-        assert!(damaged != PROTOCOL, "{text}");
-        assert!(check(&Document::of(&damaged)).is_err(), "{other}");
-    }
+    are_seen(&others);
 }
