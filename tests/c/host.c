@@ -1,7 +1,7 @@
 /* A host in C: document 01's printed roll, one command at a time and in one roll,
- * a game with a winner and two jackpot hits, another whose last ball wins, the live
- * list after whatever issues or closes tickets, and every stop and refusal of the
- * boundary. Ends with 0, or with 1 and a message for each check that fails. */
+ * a game with a winner and two jackpot hits, another whose last ball wins, a ticket that
+ * is collected part way, the live list after whatever issues or closes tickets, and every
+ * stop and refusal of the boundary. Ends with 0, or with 1 and a message for each check that fails. */
 #include "wulipday.h"
 
 #include <stdio.h>
@@ -439,6 +439,34 @@ static void lucky_last(lounge *lounge)
     CHECK(till.retained == 11200 - 600 && till.negative);
 }
 
+/* Two games of which the first is won: paid, and the second is ticket 2's. */
+static void collected(lounge *lounge)
+{
+    static const uint8_t collect_1[] = {9, 0, 0, 0, 1};
+    static const uint8_t collect_2[] = {9, 0, 0, 0, 2};
+    uint8_t record[WULIPDAY_ANSWER_BYTES];
+    open_lounge(lounge);
+    CHECK(gives(lounge, collect_1, 5, (answer){9, 4, 0, 0}));
+    CHECK(gives(lounge, open_day_1, 3, (answer){1, 0, 1, 0}));
+    CHECK(sells(lounge, 1, 2, 1));
+    CHECK(gives(lounge, collect_1, 5, (answer){9, 34, 0, 0}));
+    CHECK(draws(lounge, 300));
+    wulipday_report cut_off = wulipday_command(lounge->house, lounge->rows, lounge->marks,
+                                               collect_1, 4, record);
+    CHECK(cut_off.stop == WULIPDAY_STOP_TOO_FEW_BYTES && cut_off.answers == 0);
+    CHECK(gives(lounge, collect_1, 5, (answer){9, 0, 2, 300}));
+    CHECK_LISTS(lounge, 2);
+    wulipday_till_figures till = wulipday_till(lounge->house, lounge->rows);
+    CHECK(till.taken == 200 && till.paid == 300 && till.owed == 0 && till.held == 100);
+    CHECK(gives(lounge, claim_1, 5, (answer){5, 19, 0, 0}));
+    CHECK(draws(lounge, 300));
+    CHECK(gives(lounge, collect_2, 5, (answer){9, 33, 0, 0}));
+    CHECK(gives(lounge, claim_2, 5, (answer){5, 0, 2, 300}));
+    till = wulipday_till(lounge->house, lounge->rows);
+    CHECK(till.taken == 200 && till.paid == 600 && till.owed == 0 && till.held == 0);
+    CHECK(till.retained == 600 - 200 && till.negative);
+}
+
 int main(void)
 {
     static lounge lounge;
@@ -453,6 +481,7 @@ int main(void)
     shared_jackpot(&lounge);
     losing_house(&lounge);
     lucky_last(&lounge);
+    collected(&lounge);
     if (failures > 0) {
         fprintf(stderr, "the host in C: %d checks failed\n", failures);
         return 1;

@@ -13,6 +13,7 @@ use refusals::refusal::Refusal;
 use sale::terms::Sale;
 use tickets::cancel::cancel_ticket;
 use tickets::claim::claim_ticket;
+use tickets::collect::collect_ticket;
 use tickets::expire::expire_tickets;
 use tickets::sell::sell_ticket;
 
@@ -27,6 +28,7 @@ pub enum Command {
     Claim(u32),
     Expire,
     Transfer(u8, u32),
+    Collect(u32),
 }
 
 // Carries out a command. A sale takes its marks `from` the caller; the other commands do not read them.
@@ -48,5 +50,6 @@ pub fn carry_out(
         Command::Claim(ticket) => claim_ticket(house, rows, marks, ticket),
         Command::Expire => expire_tickets(house, rows, marks),
         Command::Transfer(jackpot, cents) => transfer_cents(house, jackpot, cents),
+        Command::Collect(ticket) => collect_ticket(house, rows, marks, ticket),
     }
 }

@@ -4,7 +4,7 @@ use Prim.Native.Nat.{ℕ, suc, ◌+◌, ◌-◌, ◌*◌, ◌^◌, ◌≤◌, �
 use native.Mathlib.Nat.{mul-le-mul_left, mul-one, suc-mul, zero-mul}
 use native.Mathlib.Omega.{arith}
 use mathlib.Core.Path.{◌≡◌, refl, ap, subst, subst⁻¹}
-use mathlib.Core.Bool.{Bool, true, false, cond, ◌||◌, false≢true}
+use mathlib.Core.Bool.{Bool, true, false, cond, not, ◌||◌, false≢true}
 use mathlib.Core.List.{List, [], ◌∷◌, map, Memᴰ}
 use lib.Dec.{eqb}
 use lib.ListN.{length, length-map}
@@ -73,6 +73,19 @@ module _ {A : Type 0} where
 
   pub few_kept : {B : Type 0} (p : B → Bool) (f : A → B) (xs : List A) (most : ℕ) → length xs ≤ most → length (keep p (map f xs)) ≤ most
   few_kept p f xs most h = omega (arith, length_keep_le p (map f xs), length-map xs f)
+
+  -- and fewer without those of a test, where there is one
+  pub fewer_kept : (test : A → Bool) (xs : List A) → any test xs ≡ true → length (keep (λ x. not (test x)) xs) < length xs
+  unfolding keep any
+  fewer_kept test [] found = absurd (false≢true found)
+  fewer_kept test (x ∷ xs) found = go (test x) found (fewer_kept test xs)
+    where
+      rest : List A
+      rest = keep (λ x. not (test x)) xs
+
+      go : (here : Bool) → (here || any test xs) ≡ true → (any test xs ≡ true → length rest < length xs) → length (cond (not here) (x ∷ rest) rest) < suc (length xs)
+      go true here fewer = omega (arith, length_keep_le (λ x. not (test x)) xs)
+      go false later fewer = omega (arith, fewer later)
 
 pub length_awarded : (game : ℕ) (awards : List ℕ) (ts : List Ticket) → length (awarded game awards ts) ≡ length ts
 unfolding awarded

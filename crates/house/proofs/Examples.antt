@@ -21,7 +21,7 @@ use Rattle.prizes.specs.LuckyLast.{lucky_last_row, lucky_last_cents, numbers_mar
 use Rattle.sale.specs.Kinds.{jackpot_by}
 use Rattle.calendar.specs.Calendar.{is_leap_year, month_length, next_day, date_of, month_days, year_days, day_of, a_year_on, is_later, has_expired}
 use Rattle.house.specs.Tickets.{runs_in, games_left, paid_stakes}
-use Rattle.house.specs.Commands.{changed, Command, open', sell, ball, claim, expire, ticket_at, still_live, rows_of, code_of, opened, sold, settlement, awarded, game_settled, ball_entered, claimed, is_expired, expired, act, reply, step}
+use Rattle.house.specs.Commands.{changed, Command, open', sell, ball, claim, expire, collect, ticket_at, still_live, rows_of, code_of, opened, sold, settlement, awarded, game_settled, ball_entered, claimed, is_expired, expired, collected, act, reply, step}
 use Rattle.house.specs.Balance.{run, answer_after, next, run_from}
 
 -- a ticket of one way on the first numbers, with a feature or without one
@@ -78,6 +78,21 @@ finished day today = game_on day 1 (first 0 1 1 100 ∷ []) ++ (open' today ∷ 
 abbrev expired_on : ℕ → ℕ → ℕ
 expired_on day today = (answer_after (finished day today) expire).cents
 
+-- A ticket for three games on numbers 1 to 3 that wins in the first, with all three drawn, is collected, and wins in the last, with two: balls from the given
+-- number on.
+abbrev drawn_from : ℕ → List Command
+drawn_from number = map (λ n. ball (n + number)) (below 20)
+
+abbrev won_first : List Command
+won_first = game 1 (first 0 3 3 100 ∷ [])
+
+abbrev won_again : List Command
+won_again = won_first ++ (collect 1 ∷ []) ++ drawn_from 41 ++ drawn_from 2
+
+-- an answer's code, number and cents
+abbrev answered : List Command → Command → List ℕ
+answered commands c = let a = answer_after commands c in a.code ∷ a.number ∷ a.cents ∷ []
+
 pub settled_examples :
     (charge_of_games 200 5 ≡ 1000)
     × (map (charge_of_games 100) (49 ∷ 50 ∷ 99 ∷ 100 ∷ []) ≡ 4900 ∷ 4900 ∷ 9800 ∷ 9800 ∷ [])
@@ -96,5 +111,8 @@ pub settled_examples :
     × (map (expired_on (date 29 2 2000)) (date 28 2 2001 ∷ date 1 3 2001 ∷ []) ≡ 0 ∷ 300 ∷ [])
     × (map lucky_charge (49 ∷ 50 ∷ 99 ∷ 100 ∷ []) ≡ 9800 ∷ 9800 ∷ 19600 ∷ 19600 ∷ [])
     × (map (λ balls. pays_claim 1 (lucky_game balls)) (one_last ∷ one_nineteenth ∷ []) ≡ 6300 ∷ 300 ∷ [])
-unfolding sum below keep every any member kind_of within mark_of size_of last_of hits_of by_group nominated ways mask_sum way_sizes paid_games minimum_stake stake_fits game_price charge first_met marks_fit operand_rows standard_rows cell dollars prize floor_count cut_base joins round_of rounds floored_of cut_prize payout contribution contributed winning_stakes share_of odd_cents each_way rank_among ranked odd_cents_at shares_with shares_from jackpot_won jackpot_shares seed_of reseeded repaid prizes_by full_by jackpot_by winner_of paid_for majors_of prizes_of lucky_last_row lucky_last_cents numbers_marked lucky_last_prize all_prizes_of settle_jackpot settle is_leap_year month_length next_day date_of month_days year_days day_of a_year_on is_later has_expired runs_in games_left paid_stakes ticket_at still_live rows_of code_of opened sold settlement awarded game_settled ball_entered claimed is_expired expired act reply step next run_from changed ones ones_in zip_with
-settled_examples = (refl, refl, refl, refl, refl, refl, refl, refl, refl, refl, refl, refl, refl, refl, refl, refl, refl)
+    × (answered won_first (collect 1) ≡ 0 ∷ 2 ∷ 3600 ∷ [])
+    × (answered won_again (claim 2) ≡ 0 ∷ 2 ∷ 200 ∷ [])
+    × (answered won_again (claim 1) ≡ 19 ∷ 0 ∷ 0 ∷ [])
+unfolding sum below keep every any member kind_of within mark_of size_of last_of hits_of by_group nominated ways mask_sum way_sizes paid_games minimum_stake stake_fits game_price charge first_met marks_fit operand_rows standard_rows cell dollars prize floor_count cut_base joins round_of rounds floored_of cut_prize payout contribution contributed winning_stakes share_of odd_cents each_way rank_among ranked odd_cents_at shares_with shares_from jackpot_won jackpot_shares seed_of reseeded repaid prizes_by full_by jackpot_by winner_of paid_for majors_of prizes_of lucky_last_row lucky_last_cents numbers_marked lucky_last_prize all_prizes_of settle_jackpot settle is_leap_year month_length next_day date_of month_days year_days day_of a_year_on is_later has_expired runs_in games_left paid_stakes ticket_at still_live rows_of code_of opened sold settlement awarded game_settled ball_entered claimed is_expired expired collected act reply step next run_from changed ones ones_in zip_with
+settled_examples = (refl, refl, refl, refl, refl, refl, refl, refl, refl, refl, refl, refl, refl, refl, refl, refl, refl, refl, refl, refl)

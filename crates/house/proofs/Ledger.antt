@@ -3,7 +3,7 @@
 use Prim.Native.Nat.{ℕ, ◌+◌, ◌≤◌, max}
 use mathlib.Core.Path.{◌≡◌}
 use mathlib.Core.Bool.{cond}
-use mathlib.Core.List.{List, [], ◌∷◌, map}
+use mathlib.Core.List.{List, [], ◌∷◌, ◌++◌, map}
 use lib.ListN.{length}
 use Rattle.sale.specs.Checks.{way_count}
 use Rattle.sale.specs.Price.{paid_games}
@@ -12,7 +12,7 @@ use Rattle.sale.specs.Kinds.{jackpot_by}
 use Rattle.sale.specs.Bounds.{Playable}
 use Rattle.house.specs.Tickets.{Ticket, terms_of, games_left, with_due, with_stop, with_finished_day}
 use Rattle.house.specs.Model.{Model, game_limit}
-use Rattle.house.specs.Commands.{still_live, changed, cancelled_ticket, cancelled, settlement, awarded, finished_on, game_settled, claimed, is_expired, expired}
+use Rattle.house.specs.Commands.{still_live, changed, cancelled_ticket, cancelled, settlement, awarded, finished_on, game_settled, claimed, is_expired, expired, ticket_at, collected_ticket, reissued_ticket, collected}
 use Rattle.house.specs.Till.{till_of}
 use Rattle.house.specs.Draws.{DifferentBalls}
 use Rattle.house.specs.Sheet.{Sheet, Line, games_from}
@@ -38,6 +38,10 @@ claimed_ledger n m = with_live (claimed n (house_of m)) (changed n (λ t. with_d
 
 abbrev pub expired_ledger : Model → Model
 expired_ledger m = with_live (expired (house_of m)) (map (λ t. cond (is_expired m t) (with_due t 0) t) m.live)
+
+abbrev pub collected_ledger : ℕ → Model → Model
+collected_ledger n m =
+    with_live (collected n (house_of m)) (changed n (collected_ticket m) m.live ++ (reissued_ticket m (ticket_at n (house_of m).live) ∷ []))
 
 abbrev pub settled_ledger : ℕ → Model → Model
 settled_ledger b m = with_live (game_settled b (house_of m)) (ended_tickets (settlement b (house_of m)).awards m)

@@ -27,6 +27,7 @@ pub mod ReachedHouses
 pub mod ViewLaws
 pub mod CallsBalanced
 pub mod Reliance
+pub mod PartWay
 pub mod DifferentBalls
 pub mod OddCentsByNumber
 pub mod Examples

@@ -1,6 +1,6 @@
 -- Laws of lists: what is kept of what was kept before, and what holds of every element.
 use mathlib.Core.Path.{◌≡◌, refl, ap}
-use mathlib.Core.Bool.{Bool, true, false, cond}
+use mathlib.Core.Bool.{Bool, true, false, cond, not}
 use mathlib.Core.List.{List, [], ◌∷◌, ◌++◌, map}
 use Rattle.sale.specs.Lists.{keep}
 use Rattle.house.proofs.Ledger.{All}
@@ -63,3 +63,25 @@ module _ {A : Type 0} where
       → (xs : List A)
       → keep g (keep f xs) ≡ keep g xs
   keep_within f g stays xs = rw (map_self (keep f xs), map_self xs) at (keep_map_keep f g (λ x. x) stays xs)
+
+  -- where the elements of a test change into what is dropped, the others are kept
+  pub keep_changed :
+      (p test : A → Bool) (f : A → A)
+      → ((x : A) → test x ≡ true → p (f x) ≡ false)
+      → (xs : List A)
+      → All (λ x. p x ≡ true) xs
+      → keep p (map (λ x. cond (test x) (f x) x) xs) ≡ keep (λ x. not (test x)) xs
+  unfolding keep
+  keep_changed p test f drops [] all = refl
+  keep_changed p test f drops (x ∷ xs) (here, all) = go (test x) refl (keep_changed p test f drops xs all)
+    where
+      rest : List A
+      rest = keep p (map (λ x. cond (test x) (f x) x) xs)
+
+      go :
+          (b : Bool)
+          → test x ≡ b
+          → rest ≡ keep (λ x. not (test x)) xs
+          → cond (p (cond b (f x) x)) (cond b (f x) x ∷ rest) rest ≡ cond (not b) (x ∷ keep (λ x. not (test x)) xs) (keep (λ x. not (test x)) xs)
+      go true e same = rw (drops x e) same
+      go false e same = rw here (ap (λ ys. x ∷ ys) same)

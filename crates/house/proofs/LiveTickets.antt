@@ -2,18 +2,19 @@
 -- with no game left and nothing due, stays closed under every change, so that it makes no difference whether it was dropped before.
 use Prim.Native.Nat.{ℕ, ◌+◌, ◌≤◌, min}
 use native.Mathlib.Omega.{arith}
-use mathlib.Core.Path.{◌≡◌, refl, sym, ap}
-use mathlib.Core.Bool.{Bool, true, false, cond, ◌&&◌}
-use mathlib.Core.List.{List, [], ◌∷◌, map}
+use mathlib.Core.Path.{◌≡◌, refl, sym, ap, ◌∙◌}
+use mathlib.Core.Bool.{Bool, true, false, cond, not, ◌&&◌}
+use mathlib.Core.List.{List, [], ◌∷◌, ◌++◌, map}
 use lib.Dec.{ltb, leb, eqb}
-use borrow.Author.Tests.{ltb-true, leb-true, eqb-true, eq-eqb, ne_eqb, not-false}
+use borrow.Author.Tests.{ltb-true, leb-true, eqb-true, eqb-false, eq-eqb, ne_eqb, not-false}
 use Rattle.sale.specs.Lists.{keep}
 use Rattle.sale.specs.Checks.{Operands}
 use Rattle.house.specs.Tickets.{Ticket, runs_in, games_left, is_finished, is_live, with_due, with_stop, with_finished_day}
 use Rattle.house.specs.Model.{Model, next_game, is_drawing}
-use Rattle.house.specs.Commands.{sold, sold_ticket, cancelled, cancel_stop, cancelled_ticket, settlement, awarded, finished_on, tickets_after_game, game_settled, claimed, is_expired, expired, changed, still_live}
-use Rattle.house.proofs.Ledger.{All, house_of, with_live, ended_tickets, cancelled_ledger, claimed_ledger, expired_ledger, settled_ledger}
-use Rattle.house.proofs.ListLaws.{cond_either, keep_snoc, keep_within, keep_map_keep}
+use Rattle.house.specs.Commands.{sold, sold_ticket, cancelled, cancel_stop, cancelled_ticket, settlement, awarded, finished_on, tickets_after_game, game_settled, claimed, is_expired, expired, ticket_at, collected_ticket, reissued_ticket, collected, changed, still_live}
+use Rattle.house.proofs.Ledger.{All, house_of, with_live, ended_tickets, cancelled_ledger, claimed_ledger, expired_ledger, collected_ledger, settled_ledger}
+use Rattle.house.proofs.ListLaws.{cond_either, keep_snoc, keep_within, keep_map_keep, keep_changed}
+use Rattle.house.proofs.RowLaws.{still_live_all}
 use Rattle.house.proofs.Refusals.{and_true}
 
 -- ---- closed tickets
@@ -74,6 +75,11 @@ cancelled_closed m t h =
 pub paid_closed : (game : ℕ) (t : Ticket) → Closed game t → Closed game (with_due t 0)
 unfolding games_left
 paid_closed game t h = record { games = h.games; due = refl }
+
+pub collected_closed : (m : Model) (t : Ticket) → Closed m.game (collected_ticket m t)
+unfolding games_left
+collected_closed m t =
+    finished_on_closed m.game m.day m.game (with_stop (with_due t 0) m.game) (record { games = omega arith; due = refl })
 
 pub later_closed : (game : ℕ) (t : Ticket) → Closed game t → Closed (game + 1) t
 unfolding games_left
@@ -227,3 +233,23 @@ unfolding expired still_live is_expired
 expired_house_lem m =
     ap (with_live (expired (house_of m)))
     (unseen_drops m _ (λ t h. cond_either (Closed m.game) (is_expired m t) (paid_closed m.game t h) h))
+
+pub collected_house : (m : Model) (n : ℕ) → is_finished m.game (ticket_at n (house_of m).live) ≡ false → collected n (house_of m) ≡ house_of (collected_ledger n m)
+unfolding collected still_live changed games_left
+collected_house m n running =
+    let t : Ticket = ticket_at n (house_of m).live in
+    let new : Ticket = reissued_ticket m t in
+    let stays : is_live m.game new ≡ true = live_with_games m.game new (eqb-false _ _ running) in
+    ap (with_live (collected n (house_of m)))
+    (ap (λ ts. ts ++ (new ∷ [])) (unseen_drops m _ (λ u h. cond_either (Closed m.game) (eqb u.number n) (collected_closed m u) h))
+    ∙ sym (keep_snoc (is_live m.game) (changed n (collected_ticket m) m.live) new stays))
+
+-- the house's tickets after a collection: the old number is closed, and the new one stands last
+pub collected_live :
+    (m : Model) (n : ℕ)
+    → (collected n (house_of m)).live ≡ keep (λ t. not (eqb t.number n)) (house_of m).live ++ (reissued_ticket m (ticket_at n (house_of m).live) ∷ [])
+unfolding collected changed still_live
+collected_live m n =
+    ap (λ ts. ts ++ (reissued_ticket m (ticket_at n (house_of m).live) ∷ []))
+    (keep_changed (is_live m.game) (λ t. eqb t.number n) (collected_ticket m) (λ t e. not_live m.game (collected_ticket m t) (collected_closed m t))
+    (house_of m).live (still_live_all m.game m.live))

@@ -13,7 +13,7 @@ use Rattle.sale.proofs.KeepLaws.{ltb_same}
 use Rattle.house.specs.Commands.{Command}
 use Rattle.house.specs.Draws.{Different}
 use Rattle.house.specs.Sheet.{feed, moved, playing, sheet_settlement, games_from}
-use Rattle.house.specs.Claims.{Log, Logged, sheet_of, Effect, nothing, issues, takes_off, draws, pays, effect_of, effect_in, Progress, nineteen_in, progress_after, progress_of, game_of, next_of, drawn_after, drawn, Span, games_of, span_after, span_of, award_at, award_after, award_in, won_by, payments_after, payments}
+use Rattle.house.specs.Claims.{Log, Logged, sheet_of, Effect, nothing, issues, takes_off, draws, pays, reissues, effect_of, effect_in, Progress, nineteen_in, progress_after, progress_of, game_of, next_of, drawn_after, drawn, Span, games_of, span_after, span_of, award_at, award_after, award_in, won_by, payments_after, payments}
 use Rattle.house.proofs.MoneyLaws.{all_of, keep_same, keep_keep, sum_picked, sum_parts}
 use Rattle.house.proofs.SpanLaws.{keep_below}
 use Rattle.house.proofs.RowLists.{equal_or_not, earlier_or_not}
@@ -182,6 +182,7 @@ not_drawn (e ∷ log) g later = go (effect_in e) (not_drawn log g) later
     go (takes_off k) rest later = rest later
     go (draws b) rest later = drawing (nineteen_in (progress_of log)) rest later
     go (pays k) rest later = rest later
+    go (reissues k) rest later = rest later
 
 -- today no game is left out: every one from 1 up to the current one is drawn
 pub drawn_today : (log : Log) (g : ℕ) → 1 ≤ g → drawn log g ≡ ltb g (game_of log)
@@ -211,6 +212,7 @@ drawn_today (e ∷ log) g some = go (effect_in e) (drawn_today log g some)
     go (takes_off k) rest = rest
     go (draws b) rest = drawing (nineteen_in (progress_of log)) rest
     go (pays k) rest = rest
+    go (reissues k) rest = rest
 
 -- ---- a number that was never issued
 
@@ -222,6 +224,10 @@ unissued_span (e ∷ log) n never = go (effect_in e) (unissued_span log n) never
   where
     none : Span
     none = record { first = 0; stop = 0 }
+
+    cut : (stop : ℕ) (b : Bool) → cond b (record { first = 0; stop = min 0 stop }) none ≡ none
+    cut stop true = let zero' : min 0 stop ≡ 0 = omega arith in λ i. record { first = 0; stop = zero' i }
+    cut stop false = refl
 
     drawing : (last : Bool)
         → ((n ≡ 0) ⊎ ((progress_of log).issued < n) → span_of n log ≡ none)
@@ -241,16 +247,14 @@ unissued_span (e ∷ log) n never = go (effect_in e) (unissued_span log n) never
     go : (effect : Effect)
         → ((n ≡ 0) ⊎ ((progress_of log).issued < n) → span_of n log ≡ none)
         → (n ≡ 0) ⊎ ((progress_after (progress_of log) effect).issued < n)
-        → span_after n log (span_of n log) effect ≡ none
+        → span_after n log (λ k. span_of k log) effect ≡ none
     go nothing rest never = rest never
     go (issues games) rest never = rw (ne_eqb ((progress_of log).issued + 1) n (other never)) (rest (still never))
-    go (takes_off k) rest never = rw (rest never) (cond_same (eqb k n))
-      where
-        cond_same : (b : Bool) → cond b (record { first = 0; stop = min 0 (next_of log) }) none ≡ none
-        cond_same true = let zero' : min 0 (next_of log) ≡ 0 = omega arith in λ i. record { first = 0; stop = zero' i }
-        cond_same false = refl
+    go (takes_off k) rest never = rw (rest never) (cut (next_of log) (eqb k n))
     go (draws b) rest never = drawing (nineteen_in (progress_of log)) rest never
     go (pays k) rest never = rest never
+    go (reissues k) rest never =
+        rw (ne_eqb ((progress_of log).issued + 1) n (other never), rest (still never)) (cut (game_of log) (eqb k n))
 
 -- ---- a number that an effect does not touch
 
@@ -258,7 +262,7 @@ unissued_span (e ∷ log) n never = go (effect_in e) (unissued_span log n) never
 abbrev won_after : ℕ → Log → Effect → ℕ
 won_after n log effect =
     sum (map (λ g. award_after n g log (award_in n g log) effect)
-    (keep (λ g. drawn_after g log (drawn log g) effect) (games_of (span_after n log (span_of n log) effect))))
+    (keep (λ g. drawn_after g log (drawn log g) effect) (games_of (span_after n log (λ k. span_of k log) effect))))
 
 -- two logs tell the same of a number
 pub record SameTold (n : ℕ) (before log : Log) : Type 0 where
@@ -273,6 +277,7 @@ Untouched n log (issues games) = (progress_of log).issued + 1 ≡ n → ⊥
 Untouched n log (takes_off k) = k ≡ n → ⊥
 Untouched n log (draws b) = nineteen_in (progress_of log) ≡ false
 Untouched n log (pays k) = k ≡ n → ⊥
+Untouched n log (reissues k) = ((progress_of log).issued + 1 ≡ n → ⊥) × (k ≡ n → ⊥)
 
 pub untouched : (n : ℕ) (log : Log) (e : Logged) → Untouched n log (effect_in e) → SameTold n log (e ∷ log)
 unfolding span_of span_after drawn drawn_after award_in award_after won_by payments payments_after
@@ -285,18 +290,22 @@ untouched n log e free =
 
     go : (effect : Effect)
         → Untouched n log effect
-        → (span_after n log (span_of n log) effect ≡ span_of n log)
+        → (span_after n log (λ k. span_of k log) effect ≡ span_of n log)
         × (won_after n log effect ≡ won_by n log)
         × (payments_after n (payments n log) effect ≡ payments n log)
     go nothing free = (refl, refl, refl)
     go (issues games) free =
-        let same : span_after n log (span_of n log) (issues games) ≡ span_of n log = rw (ne_eqb ((progress_of log).issued + 1) n free) in
+        let same : span_after n log (λ k. span_of k log) (issues games) ≡ span_of n log = rw (ne_eqb ((progress_of log).issued + 1) n free) in
         (same, ap won_in same, refl)
     go (takes_off k) free =
-        let same : span_after n log (span_of n log) (takes_off k) ≡ span_of n log = rw (ne_eqb k n free) in
+        let same : span_after n log (λ k. span_of k log) (takes_off k) ≡ span_of n log = rw (ne_eqb k n free) in
         (same, ap won_in same, refl)
     go (draws b) early = (refl, rw early, refl)
     go (pays k) free = (refl, refl, rw (ne_eqb k n free))
+    go (reissues k) (new, other) =
+        let same : span_after n log (λ k. span_of k log) (reissues k) ≡ span_of n log =
+        rw (ne_eqb ((progress_of log).issued + 1) n new, ne_eqb k n other) in
+        (same, ap won_in same, rw (ne_eqb k n other))
 
 -- ---- a number that it touches
 
@@ -320,7 +329,7 @@ module _ (e : Logged) (log : Log) where
       → (progress_of log).issued + 1 ≡ n
       → span_of n (e ∷ log) ≡ record { first = next_of log; stop = next_of log + games }
   unfolding span_of span_after
-  issued_span games n is here = ap (span_after n log (span_of n log)) is ∙ rw (eq-eqb ((progress_of log).issued + 1) n here)
+  issued_span games n is here = ap (span_after n log (λ k. span_of k log)) is ∙ rw (eq-eqb ((progress_of log).issued + 1) n here)
 
   -- what is taken off is not drawn
   pub taken_off_lem : (n : ℕ)
@@ -332,11 +341,11 @@ module _ (e : Logged) (log : Log) where
   taken_off_lem n is =
       let first : ℕ = (span_of n log).first in
       let stop : ℕ = (span_of n log).stop in
-      let span : span_after n log (span_of n log) (takes_off n) ≡ record { first = first; stop = min stop (next_of log) } =
+      let span : span_after n log (λ k. span_of k log) (takes_off n) ≡ record { first = first; stop = min stop (next_of log) } =
       rw (eq-eqb n n refl) in
       let least : game_of log ≤ next_of log = next_least (eqb (progress_of log).balls 0) in
       let count : min stop (next_of log) - first ≡ min (stop - first) (next_of log - first) = omega arith in (
-        ap (span_after n log (span_of n log)) is ∙ span,
+        ap (span_after n log (λ k. span_of k log)) is ∙ span,
         ap (won_after n log) is
             ∙ ap (λ (s : Span). sum (map (λ g. award_in n g log) (keep (drawn log) (games_of s)))) span
             ∙ ap (λ (k : ℕ). sum (map (λ g. award_in n g log) (keep (drawn log) (games_from first k)))) count
@@ -358,7 +367,7 @@ module _ (e : Logged) (log : Log) where
       × (payments n (e ∷ log) ≡ payments n log)
   unfolding span_of span_after drawn drawn_after award_in award_after won_by payments payments_after
   game_drawn b n is last = (
-    ap (span_after n log (span_of n log)) is,
+    ap (span_after n log (λ k. span_of k log)) is,
     ap (won_after n log) is
         ∙ rw last
         (won_more (game_of log) (award_now b n log) (drawn log) (λ g. award_in n g log) (games_of (span_of n log)) (not_drawn log (game_of log) (omega arith))
@@ -373,4 +382,23 @@ module _ (e : Logged) (log : Log) where
       × (won_by n (e ∷ log) ≡ won_by n log)
       × (payments n (e ∷ log) ≡ cond (eqb k n) (payments n log + 1) (payments n log))
   unfolding span_of span_after drawn drawn_after award_in award_after won_by payments payments_after
-  number_paid k n is = (ap (span_after n log (span_of n log)) is, ap (won_after n log) is, ap (payments_after n (payments n log)) is)
+  number_paid k n is = (ap (span_after n log (λ k. span_of k log)) is, ap (won_after n log) is, ap (payments_after n (payments n log)) is)
+
+  -- a collection: the next number has the games from the current one on, and the number that is paid keeps those before
+  module _ (k : ℕ) (is : effect_in e ≡ reissues k) where
+    pub reissued_span : (n : ℕ)
+        → (progress_of log).issued + 1 ≡ n
+        → span_of n (e ∷ log) ≡ record { first = game_of log; stop = (span_of k log).stop }
+    unfolding span_of span_after
+    reissued_span n here = ap (span_after n log (λ k. span_of k log)) is ∙ rw (eq-eqb ((progress_of log).issued + 1) n here)
+
+    pub kept_span :
+        ((progress_of log).issued + 1 ≡ k → ⊥)
+        → span_of k (e ∷ log) ≡ record { first = (span_of k log).first; stop = min (span_of k log).stop (game_of log) }
+    unfolding span_of span_after
+    kept_span old =
+        ap (span_after k log (λ k. span_of k log)) is ∙ rw (ne_eqb ((progress_of log).issued + 1) k old, eq-eqb k k refl)
+
+    pub number_collected : (n : ℕ) → payments n (e ∷ log) ≡ cond (eqb k n) (payments n log + 1) (payments n log)
+    unfolding payments payments_after
+    number_collected n = ap (payments_after n (payments n log)) is

@@ -2,18 +2,18 @@
 -- holds of the one that a number finds among those that pass a test, and no other ticket has that number.
 use Prim.Native.Nat.{ℕ, suc, ◌+◌, ◌≤◌, ◌<◌}
 use native.Mathlib.Omega.{arith}
-use mathlib.Core.Path.{◌≡◌, refl}
+use mathlib.Core.Path.{◌≡◌, refl, sym, ap, ◌∙◌}
 use mathlib.Core.Bool.{Bool, true, false, cond, ◌||◌, false≢true}
 use mathlib.Core.List.{List, [], ◌∷◌, map}
 use lib.Dec.{eqb}
 use lib.ListN.{length}
-use borrow.Author.Tests.{eqb-true, eqb-false}
+use borrow.Author.Tests.{eqb-true, eqb-false, ne_eqb}
 use Rattle.sale.specs.Lists.{keep, any}
 use Rattle.house.specs.Tickets.{Ticket}
 use Rattle.house.specs.Commands.{ticket_at, has_ticket}
 use Rattle.house.specs.Sheet.{games_from}
 use Rattle.house.proofs.Ledger.{All}
-use Rattle.house.proofs.MoneyLaws.{all_from}
+use Rattle.house.proofs.MoneyLaws.{all_from, all_kept_lem, keep_none, any_none}
 
 -- ---- every element
 
@@ -126,3 +126,41 @@ module _ (n : ℕ) where
   unfolding keep
   only p k [] row has = tt
   only p k (t ∷ ts) row has = only_kept (p t) k t ts p row (only p (k + 1) ts (row_rest k t ts row)) has
+
+  -- so the tickets of that number are that one alone
+  others : (k : ℕ) (ts : List Ticket) → n < k → Row k ts → All (λ t. eqb t.number n ≡ false) ts
+  others k ts later row =
+      all_from {P = Within k (k + length ts)} {Q = λ t. eqb t.number n ≡ false} (λ t h. ne_eqb t.number n (λ same. omega arith)) ts (row_within k ts row)
+
+  pub alone : (p : Ticket → Bool) (k : ℕ) (ts : List Ticket) → Row k ts
+      → has_ticket n (keep p ts) ≡ true
+      → keep (λ t. eqb t.number n) ts ≡ ticket_at n (keep p ts) ∷ []
+  unfolding keep any ticket_at
+  alone p k [] row has = absurd (false≢true has)
+  alone p k (t ∷ ts) row has = go (eqb t.number n) refl (p t) has (alone p (k + 1) ts (row_rest k t ts row))
+    where
+      mine : List Ticket
+      mine = keep (λ u. eqb u.number n) ts
+
+      away : eqb t.number n ≡ true → All (λ u. eqb u.number n ≡ false) ts
+      away here =
+          let head : t.number ≡ k = row_head k t ts row in
+          others (k + 1) ts (omega (arith, eqb-true t.number n here)) (row_rest k t ts row)
+
+      go : (here : Bool)
+          → eqb t.number n ≡ here
+          → (kept : Bool)
+          → has_ticket n (cond kept (t ∷ keep p ts) (keep p ts)) ≡ true
+          → (has_ticket n (keep p ts) ≡ true → mine ≡ ticket_at n (keep p ts) ∷ [])
+          → cond here (t ∷ mine) mine ≡ ticket_at n (cond kept (t ∷ keep p ts) (keep p ts)) ∷ []
+      go true here true held rest =
+          ap (λ us. t ∷ us) (keep_none (λ u. eqb u.number n) ts (away here))
+          ∙ ap (λ b. cond b t (ticket_at n (keep p ts)) ∷ []) (sym here)
+      go true here false held rest =
+          let gone : has_ticket n (keep p ts) ≡ false =
+          any_none (λ u. eqb u.number n) (keep p ts) (all_kept_lem (λ u. eqb u.number n ≡ false) p ts (away here)) in
+          absurd (false≢true (sym gone ∙ held))
+      go false other true held rest =
+          let later : has_ticket n (keep p ts) ≡ true = ap (λ b. b || has_ticket n (keep p ts)) (sym other) ∙ held in
+          rest later ∙ ap (λ b. cond b t (ticket_at n (keep p ts)) ∷ []) (sym other)
+      go false other false held rest = rest held

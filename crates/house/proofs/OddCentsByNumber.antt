@@ -1,6 +1,6 @@
 -- "Odd cents go to winning ways by stake, larger first, equal stakes by ticket number": of the shares of a settled game, told in ticket numbers and without the
 -- rule book's order. That goes by places among the tickets that run in the game; in every house that commands reach they stand in rising number.
-use mathlib.Core.Path.{◌≡◌, sym, ap, ◌∙◌}
+use mathlib.Core.Path.{◌≡◌, ap, ◌∙◌}
 use mathlib.Core.Logic.{⊎_elim}
 use mathlib.Core.Bool.{true}
 use mathlib.Core.List.{List, map}

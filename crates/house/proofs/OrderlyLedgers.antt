@@ -13,16 +13,17 @@ use borrow.Author.Tests.{le-leb, ne_eqb, eqb-true, eqb-false}
 use Rattle.sale.specs.Lists.{every, any, member}
 use Rattle.sale.specs.Checks.{Operands}
 use Rattle.sale.specs.Bounds.{Playable}
-use Rattle.house.specs.Tickets.{Ticket, runs_in, games_left, is_finished, with_due, with_stop, with_finished_day}
+use Rattle.house.specs.Tickets.{Ticket, runs_in, games_left, is_finished, is_live, with_due, with_stop, with_finished_day}
 use Rattle.house.specs.Model.{Model, Counters, fresh, game_limit, next_game}
-use Rattle.house.specs.Commands.{ball, code_of, sold, sold_ticket, cancel_stop, cancelled_ticket, balls_with, settles, settlement, awarded, finished_on, game_settled, ball_entered}
+use Rattle.house.specs.Commands.{ball, code_of, sold, sold_ticket, cancel_stop, cancelled_ticket, ticket_at, changed, still_live, collected_ticket, reissued_ticket, collected, balls_with, settles, settlement, awarded, finished_on, game_settled, ball_entered}
 use Rattle.house.specs.Draws.{Different, DifferentBalls}
 use Rattle.house.specs.Sheet.{games_from}
-use Rattle.house.proofs.Ledger.{All, Fixed, fixed_part, Kept, BallsIn, Orderly, house_of, settled_ledger}
+use Rattle.house.proofs.Ledger.{All, Fixed, fixed_part, Kept, BallsIn, Orderly, house_of, collected_ledger, settled_ledger}
 use Rattle.house.proofs.ListLaws.{cond_either, All-append, All-map, map_unseen}
 use Rattle.house.proofs.LiveTickets.{finished_on_keeps, award_to, awarded_keeps, all_awarded, next_game_least}
-use Rattle.house.proofs.Refusals.{or_false, and_true, SellAccepted, ball_accepted}
+use Rattle.house.proofs.Refusals.{or_false, and_true, SellAccepted, CollectAccepted, ball_accepted}
 use Rattle.house.proofs.CheckedOperands.{playable}
+use Rattle.house.proofs.Numbered.{found}
 
 -- ---- the balls
 
@@ -125,6 +126,22 @@ pub paid_kept : (game cents : ℕ) (t : Ticket) → Kept game t → Kept game (w
 unfolding games_left
 paid_kept game cents t h = record { fixed = h.fixed; ends = h.ends; running = h.running; finished = h.finished }
 
+-- the two tickets that a collection makes of one
+collected_kept : (m : Model) (t : Ticket) → (m.day ≡ 0 → ⊥) → m.game ≤ game_limit + 1 → Kept m.game t → Kept m.game (collected_ticket m t)
+unfolding games_left
+collected_kept m t opened within h =
+    finished_on_kept m.day m.game (with_stop (with_due t 0) m.game) opened h.fixed within (λ left. absurd (left (omega arith)))
+
+reissued_kept : (m : Model) (t : Ticket) → is_finished m.game t ≡ false → Kept m.game t → Kept m.game (reissued_ticket m t)
+unfolding games_left
+reissued_kept m t running h =
+    record {
+      fixed = record { playable = h.fixed.playable; counted = h.fixed.counted; playing = h.fixed.playing; sized = h.fixed.sized; free_from = h.fixed.free_from };
+      ends = h.ends;
+      running = h.running;
+      finished = λ none. absurd (eqb-false _ _ running none);
+    }
+
 -- the next game is the current one
 later_kept : (day game : ℕ) (t : Ticket) → (day ≡ 0 → ⊥) → Kept game t → Kept (game + 1) (finished_on day (game + 1) t)
 unfolding games_left
@@ -187,18 +204,41 @@ orderly_changed m counters test f ok same kept =
     ok.balls
     ok.games
 
-pub orderly_sold : (m : Model) (o : Operands) → Orderly m → SellAccepted (house_of m) o → Orderly (sold o m)
-unfolding sold
-orderly_sold m o ok h =
-    let next : m.issued + 1 ≡ 1 + length m.live = omega (arith, ok.issued) in
-    let longer : length (m.live ++ (sold_ticket m o ∷ [])) ≡ suc (length m.live) = rw (length-append m.live (sold_ticket m o ∷ [])) (add-one (length m.live)) in
+-- one ticket more, under the next number
+orderly_more :
+    (m : Model) (t : Ticket) (counters : Counters)
+    → Orderly m
+    → t.number ≡ m.issued + 1
+    → Kept m.game t
+    → Orderly
+    (record { day = m.day; game = m.game; balls = m.balls; issued = m.issued + 1; live = m.live ++ (t ∷ []); six = m.six; eight = m.eight; counters = counters })
+orderly_more m t counters ok next kept =
+    let number : t.number ≡ 1 + length m.live = omega (arith, ok.issued) in
+    let longer : length (m.live ++ (t ∷ [])) ≡ suc (length m.live) = rw (length-append m.live (t ∷ [])) (add-one (length m.live)) in
     record {
       issued = omega (arith, longer, ok.issued);
-      numbers = rw (longer, games_from_more 1 (length m.live), map-append (λ (t : Ticket). t.number) m.live (sold_ticket m o ∷ []), ok.numbers, next);
-      tickets = All-append (Kept m.game) m.live (sold_ticket m o ∷ []) ok.tickets (sold_kept m o (playable o h.checked) h.ends, tt);
+      numbers = rw (longer, games_from_more 1 (length m.live), map-append (λ (u : Ticket). u.number) m.live (t ∷ []), ok.numbers, number);
+      tickets = All-append (Kept m.game) m.live (t ∷ []) ok.tickets (kept, tt);
       balls = ok.balls;
       games = ok.games;
     }
+
+pub orderly_sold : (m : Model) (o : Operands) → Orderly m → SellAccepted (house_of m) o → Orderly (sold o m)
+unfolding sold
+orderly_sold m o ok h = orderly_more m (sold_ticket m o) _ ok refl (sold_kept m o (playable o h.checked) h.ends)
+
+-- a collection changes one ticket and issues another
+pub orderly_collected : (m : Model) (n : ℕ) → Orderly m → m.game ≤ game_limit + 1 → CollectAccepted (house_of m) n → Orderly (collected_ledger n m)
+unfolding collected changed still_live
+orderly_collected m n ok within h =
+    let old : Ticket = ticket_at n (house_of m).live in
+    let kept : Kept m.game old = (found n (Kept m.game) (is_live m.game) m.live ok.tickets h.here).0 in
+    orderly_more _ (reissued_ticket m old) _
+    (orderly_changed m m.counters (λ t. eqb t.number n) (collected_ticket m) ok
+    (λ t. finished_on_keeps (λ u. u.number) (λ u d. refl) m.day m.game (with_stop (with_due t 0) m.game))
+    (λ t. collected_kept m t h.opened within))
+    refl
+    (reissued_kept m old h.running kept)
 
 -- the twentieth ball
 pub orderly_settled :

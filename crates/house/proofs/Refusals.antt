@@ -16,7 +16,7 @@ use Rattle.sale.specs.Price.{charge_limit, stake_fits}
 use Rattle.sale.specs.Checks.{Operands, first_met, marks_fit, feature_row, feature_stake_row, operand_rows, operand_code, way_count, charge_of}
 use Rattle.house.specs.Tickets.{is_finished, keno_to_go_begun}
 use Rattle.house.specs.Model.{Model, game_limit, live_limit, ticket_limit, is_drawing, next_game}
-use Rattle.house.specs.Commands.{sell, cancel, ball, claim, transfer, ticket_at, has_ticket, cancel_stop, rows_of, code_of}
+use Rattle.house.specs.Commands.{sell, cancel, ball, claim, transfer, collect, ticket_at, has_ticket, cancel_stop, rows_of, code_of}
 use Rattle.house.proofs.Ledger.{All}
 
 -- ---- Bool tests
@@ -153,6 +153,14 @@ pub record ClaimAccepted (m : Model) (n : ℕ) : Type 0 where
   pub finished : is_finished m.game (ticket_at n m.live) ≡ true
   pub due : (ticket_at n m.live).due ≡ 0 → ⊥
 
+pub record CollectAccepted (m : Model) (n : ℕ) : Type 0 where
+  pub opened : m.day ≡ 0 → ⊥
+  pub issued : n ≤ m.issued
+  pub here : has_ticket n m.live ≡ true
+  pub running : is_finished m.game (ticket_at n m.live) ≡ false
+  pub due : (ticket_at n m.live).due ≡ 0 → ⊥
+  pub numbered : m.issued < ticket_limit
+
 pub record TransferAccepted (m : Model) (j cents : ℕ) : Type 0 where
   pub opened : m.day ≡ 0 → ⊥
   pub jackpot : (j ≡ 6) ⊎ (j ≡ 8)
@@ -222,6 +230,19 @@ claim_accepted m n e =
       here = not-false _ p.1.1.0;
       finished = not-false _ p.1.1.1.0;
       due = eqb-false _ _ p.1.1.1.1.0;
+    }
+
+pub collect_accepted : (m : Model) (n : ℕ) → code_of m (collect n) ≡ 0 → CollectAccepted m n
+unfolding code_of rows_of
+collect_accepted m n e =
+    let p = all_passed (rows_of m (collect n)) (omega arith) e in
+    record {
+      opened = eqb-false _ _ p.0;
+      issued = ltb-false _ _ (or_false _ _ p.1.0).1;
+      here = not-false _ p.1.1.0;
+      running = p.1.1.1.0;
+      due = eqb-false _ _ p.1.1.1.1.0;
+      numbered = leb-false _ _ p.1.1.1.1.1.0;
     }
 
 six_or_eight : (j : ℕ) → (eqb j 6 ≡ true) ⊎ (eqb j 8 ≡ true) → (j ≡ 6) ⊎ (j ≡ 8)

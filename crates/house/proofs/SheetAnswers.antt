@@ -9,7 +9,7 @@ use lib.ListN.{length, length-append, length-map}
 use Rattle.sale.specs.Lists.{sum}
 use Rattle.sale.specs.Checks.{Operands, charge_of}
 use Rattle.house.specs.Model.{Model, fresh}
-use Rattle.house.specs.Commands.{replies, sell, cancel, ball, claim, expire, transfer, has_ticket, expiring, reply}
+use Rattle.house.specs.Commands.{replies, sell, cancel, ball, claim, expire, transfer, collect, has_ticket, expiring, reply}
 use Rattle.house.specs.Till.{till_of}
 use Rattle.house.specs.Sheet.{sheet_reply}
 use Rattle.house.specs.Balance.{Balanced}
@@ -37,6 +37,11 @@ module _ (m : Model) (orderly : Orderly m) where
   pub claimed_reply : (n : ℕ) → has_ticket n (house_of m).live ≡ true → reply (house_of m) (claim n) ≡ sheet_reply (sheet_for m) (claim n)
   unfolding reply sheet_reply
   claimed_reply n here = ap (replies n) (sym (claim_total m n orderly here))
+
+  pub collected_reply : (n : ℕ) → has_ticket n (house_of m).live ≡ true → reply (house_of m) (collect n) ≡ sheet_reply (sheet_for m) (collect n)
+  unfolding reply sheet_reply
+  collected_reply n here =
+      ap₂ (λ n due. replies (n + 1) due) (orderly.issued ∙ sym (length-map m.live (line_of m.game))) (sym (claim_total m n orderly here))
 
 pub expired_reply : (m : Model) → reply (house_of m) expire ≡ sheet_reply (sheet_for m) expire
 unfolding reply sheet_reply

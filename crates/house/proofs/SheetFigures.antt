@@ -1,29 +1,29 @@
 -- The figures of the sheet follow the till of the ledger. What each command moves is at most what was there: a sum over all tickets falls
 -- apart into what stays and what is moved.
-use Prim.Native.Nat.{ℕ, suc, ◌+◌, ◌-◌, ◌≤◌, ◌<◌, min, max}
+use Prim.Native.Nat.{ℕ, suc, ◌+◌, ◌-◌, ◌≤◌, min, max}
 use mathlib.Core.Path.{◌≡◌, refl, sym, ap, ◌∙◌}
-use mathlib.Core.Bool.{Bool, true, false, cond, ◌&&◌, ◌||◌, false≢true}
+use mathlib.Core.Bool.{Bool, true, false, cond, ◌&&◌}
 use mathlib.Core.List.{List, [], ◌∷◌, ◌++◌, map, map-map}
 use native.Mathlib.Nat.{add-zero}
 use native.Mathlib.Omega.{arith}
 use lib.Dec.{ltb, eqb}
 use lib.ListN.{length}
-use borrow.Author.Tests.{eqb-true, ne_eqb}
 use Rattle.prizes.specs.Hits.{draw_of}
-use Rattle.sale.specs.Lists.{sum, keep, any, member}
+use Rattle.sale.specs.Lists.{sum, keep, member}
 use Rattle.sale.specs.Checks.{Operands, price_of, charge_of}
 use Rattle.sale.specs.Price.{charge, paid_games}
 use Rattle.prizes.specs.Settle.{settle}
 use Rattle.house.specs.Tickets.{Ticket, runs_in, is_live, paid_stakes, held_for, entry_of, with_due, with_stop}
 use Rattle.house.specs.Model.{Model, Counters, next_game}
-use Rattle.house.specs.Commands.{ticket_at, has_ticket, changed, still_live, finished_on, sold_ticket, cancel_stop, cancelled_ticket, refund_of, awarded, running_in, stakes_drawn, settlement, is_expired, expiring}
+use Rattle.house.specs.Commands.{ticket_at, has_ticket, changed, still_live, finished_on, sold_ticket, cancel_stop, cancelled_ticket, refund_of, collected_ticket, reissued_ticket, awarded, running_in, stakes_drawn, settlement, is_expired, expiring}
 use Rattle.house.specs.Till.{Figures, till_of}
-use Rattle.house.specs.Sheet.{Line, games_from, line_entry, total_at, taken_off, playing, stakes_played, sheet_settlement, late_dues, too_late}
+use Rattle.house.specs.Sheet.{Line, line_entry, total_at, taken_off, playing, stakes_played, sheet_settlement, late_dues, too_late}
 use Rattle.house.proofs.Ledger.{All, Kept, Orderly, line_of, sheet_for, house_of}
 use Rattle.house.proofs.ListLaws.{cond_either}
-use Rattle.house.proofs.MoneyLaws.{all_of, all_from, all_kept_lem, keep_same, keep_keep, keep_none, any_none, sum_kept, sum_picked, sum_parts, map_same, keep_map, sum_unmoved, sum_moved}
-use Rattle.house.proofs.SpanLaws.{plays_left, stakes_split, held_none, stakes_of_game, held_drawn}
+use Rattle.house.proofs.MoneyLaws.{all_of, all_from, all_kept_lem, keep_same, keep_keep, sum_kept, sum_picked, sum_parts, map_same, keep_map, sum_unmoved, sum_moved, sum_snoc}
+use Rattle.house.proofs.SpanLaws.{plays_left, stakes_split, stakes_none, held_none, stakes_of_game, held_drawn}
 use Rattle.house.proofs.SheetLines.{taken_off_lem, late_alike}
+use Rattle.house.proofs.Numbered.{alone}
 use Rattle.house.proofs.LiveTickets.{closed_of, finished_on_keeps, running_live, next_game_least}
 
 -- what some tickets are due, and what they hold
@@ -63,59 +63,7 @@ pub till_of_house : (m : Model) → till_of (house_of m) ≡ till_of m
 unfolding till_of
 till_of_house m = λ i. till_from m.counters (live_owed m.game m.live i) (live_held m.game m.live i) (till_of m).pooled
 
--- ---- the one ticket of a number
-
--- tickets numbered from k on
-abbrev Numbered : ℕ → List Ticket → Type 0
-Numbered k ts = map (λ t. t.number) ts ≡ games_from k (length ts)
-
-numbered_head : (k : ℕ) (t : Ticket) (ts : List Ticket) → Numbered k (t ∷ ts) → (t.number ≡ k) × Numbered (k + 1) ts
-unfolding games_from
-numbered_head k t ts numbers = (cc, cc)
-
-others : (n k : ℕ) (ts : List Ticket) → n < k → Numbered k ts → All (λ t. eqb t.number n ≡ false) ts
-others n k [] later numbers = tt
-others n k (t ∷ ts) later numbers =
-    let head : (t.number ≡ k) × Numbered (k + 1) ts = numbered_head k t ts numbers in
-    let next : n < k + 1 = omega arith in
-    (ne_eqb t.number n (λ same. omega (arith, head.0)), others n (k + 1) ts next head.1)
-
-module _ (live : Ticket → Bool) (f : Ticket → ℕ) (n : ℕ) where
-  pub one_ticket : (k : ℕ) (ts : List Ticket) → Numbered k ts → has_ticket n (keep live ts) ≡ true →
-      sum (map f (keep (λ t. eqb t.number n) ts)) ≡ f (ticket_at n (keep live ts))
-  unfolding sum keep any ticket_at
-  one_ticket k [] numbers has = absurd (false≢true has)
-  one_ticket k (t ∷ ts) numbers has =
-      let head : (t.number ≡ k) × Numbered (k + 1) ts = numbered_head k t ts numbers in
-      go (eqb t.number n) refl (live t) head has (one_ticket (k + 1) ts head.1)
-    where
-      away : eqb t.number n ≡ true → (t.number ≡ k) × Numbered (k + 1) ts → All (λ u. eqb u.number n ≡ false) ts
-      away here head =
-          let next : n < k + 1 = omega (arith, head.0, eqb-true t.number n here) in
-          others n (k + 1) ts next head.1
-
-      go : (mine : Bool) → eqb t.number n ≡ mine → (alive : Bool) →
-          (t.number ≡ k) × Numbered (k + 1) ts →
-          has_ticket n (cond alive (t ∷ keep live ts) (keep live ts)) ≡ true →
-          (has_ticket n (keep live ts) ≡ true →
-          sum (map f (keep (λ u. eqb u.number n) ts)) ≡ f (ticket_at n (keep live ts))) →
-          sum (map f (cond mine (t ∷ keep (λ u. eqb u.number n) ts) (keep (λ u. eqb u.number n) ts)))
-          ≡ f (ticket_at n (cond alive (t ∷ keep live ts) (keep live ts)))
-      go true here true head held rest =
-          ap (λ l. f t + sum (map f l)) (keep_none (λ u. eqb u.number n) ts (away here head))
-          ∙ add-zero (f t)
-          ∙ ap (λ b. f (cond b t (ticket_at n (keep live ts)))) (sym here)
-      go true here false head held rest =
-          let gone : has_ticket n (keep live ts) ≡ false =
-          any_none (λ u. eqb u.number n) (keep live ts) (all_kept_lem (λ u. eqb u.number n ≡ false) live ts (away here head))
-          in
-          absurd (false≢true (sym gone ∙ held))
-      go false other true head held rest =
-          let later : has_ticket n (keep live ts) ≡ true = ap (λ b. b || has_ticket n (keep live ts)) (sym other) ∙ held in
-          rest later ∙ ap (λ b. f (cond b t (ticket_at n (keep live ts)))) (sym other)
-      go false other false head held rest = rest held
-
--- ---- what Cancel and Claim move
+-- ---- what Cancel, Claim and Collect move
 
 -- a finishing day is no money
 pub finished_due : (day game : ℕ) (t : Ticket) → (finished_on day game t).due ≡ t.due
@@ -131,6 +79,13 @@ unmoved : (f : Ticket → ℕ) (test : Ticket → Bool) (change : Ticket → Tic
 unmoved f test change same =
     sum_unmoved f (λ t. cond (test t) (change t) t) (λ t. cond_either (λ u. f u ≡ f t) (test t) (same t) refl)
 
+-- what is summed over the tickets of a number is the live one's
+one_ticket : (m : Model) (n : ℕ) (g : Ticket → ℕ) → Orderly m → has_ticket n (house_of m).live ≡ true →
+    sum (map g (keep (λ t. eqb t.number n) m.live)) ≡ g (ticket_at n (house_of m).live)
+unfolding sum still_live
+one_ticket m n g orderly here =
+    ap (λ ts. sum (map g ts)) (alone n (is_live m.game) 1 m.live orderly.numbers here) ∙ add-zero (g (ticket_at n (house_of m).live))
+
 -- the sheet's total of the lines of a number is the figure of the live ticket
 line_total : (m : Model) (n : ℕ) (f : Line → ℕ) (g : Ticket → ℕ) → Orderly m →
     All (λ t. f (line_of m.game t) ≡ g t) m.live →
@@ -143,7 +98,7 @@ line_total m n f g orderly each here =
     ∙ ap sum
     (map_same (λ t. f (line_of m.game t)) g mine
     (all_kept_lem (λ t. f (line_of m.game t) ≡ g t) (λ t. eqb t.number n) m.live each))
-    ∙ one_ticket (is_live m.game) g n 1 m.live orderly.numbers here
+    ∙ one_ticket m n g orderly here
   where
     mine : List Ticket
     mine = keep (λ t. eqb t.number n) m.live
@@ -170,57 +125,67 @@ module _ (m : Model) (n : ℕ) (orderly : Orderly m) (here : has_ticket n (house
   pub claim_total : total_at n (λ l. l.due) (map (line_of m.game) m.live) ≡ (ticket_at n (house_of m).live).due
   claim_total = line_total m n (λ l. l.due) (λ t. t.due) orderly (all_of (λ t. refl) m.live) here
 
+  -- a figure that a change of the number's ticket makes less
+  figure_moved :
+      (g : Ticket → ℕ) (f : Ticket → Ticket) (part : Ticket → ℕ)
+      → ((t : Ticket) → g t ≡ g (f t) + part t)
+      → sum (map g m.live) ≡ sum (map g (changed n f m.live)) + part (ticket_at n (house_of m).live)
+  unfolding changed
+  figure_moved g f part less =
+      sum_moved g (λ t. cond (eqb t.number n) (f t) t) part (λ t. eqb t.number n) m.live (all_of (λ t. go t (eqb t.number n)) m.live)
+      ∙ ap (λ k. sum (map g (changed n f m.live)) + k) (one_ticket m n part orderly here)
+    where
+      go : (t : Ticket) (b : Bool) → g t ≡ g (cond b (f t) t) + cond b (part t) 0
+      go t true = less t
+      go t false = omega arith
+
   -- what the house pays back was held
   pub cancel_held :
       stakes_held m.game m.live
       ≡ stakes_held m.game (changed n (cancelled_ticket m) m.live) + refund_of n (house_of m)
-  unfolding changed refund_of still_live paid_stakes
-  cancel_held =
-      sum_moved
-      (held_for m.game)
-      (λ t. cond (eqb t.number n) (cancelled_ticket m t) t)
-      refund
-      (λ t. eqb t.number n)
-      m.live
-      (all_of part m.live)
-      ∙ ap (λ k. stakes_held m.game (changed n (cancelled_ticket m) m.live) + k)
-      (one_ticket (is_live m.game) refund n 1 m.live orderly.numbers here)
+  unfolding refund_of paid_stakes
+  cancel_held = figure_moved (held_for m.game) (cancelled_ticket m) refund part
     where
       refund : Ticket → ℕ
       refund t = paid_stakes (cancel_stop m t) t.stop t
 
-      part : (t : Ticket) →
-          held_for m.game t
-          ≡ held_for m.game (cond (eqb t.number n) (cancelled_ticket m t) t) + cond (eqb t.number n) (refund t) 0
-      part t = go (eqb t.number n)
-        where
-          go : (b : Bool) → held_for m.game t ≡ held_for m.game (cond b (cancelled_ticket m t) t) + cond b (refund t) 0
-          go true =
-              let next : m.game ≤ next_game m = next_game_least m in
-              let before : max t.first m.game ≤ cancel_stop m t = omega arith in
-              stakes_split (max t.first m.game) (cancel_stop m t) t.stop t before
-              ∙ ap (λ k. k + refund t) (sym (finished_held m.day m.game m.game (with_stop t (min t.stop (cancel_stop m t)))))
-          go false = omega arith
+      part : (t : Ticket) → held_for m.game t ≡ held_for m.game (cancelled_ticket m t) + refund t
+      part t =
+          let next : m.game ≤ next_game m = next_game_least m in
+          let before : max t.first m.game ≤ cancel_stop m t = omega arith in
+          stakes_split (max t.first m.game) (cancel_stop m t) t.stop t before
+          ∙ ap (λ k. k + refund t) (sym (finished_held m.day m.game m.game (with_stop t (min t.stop (cancel_stop m t)))))
 
   -- what the house pays out was owed
   pub claim_owed :
       dues m.live
       ≡ dues (changed n (λ t. with_due t 0) m.live) + (ticket_at n (house_of m).live).due
-  unfolding changed still_live
-  claim_owed =
-      sum_moved
-      (λ t. t.due)
-      (λ t. cond (eqb t.number n) (with_due t 0) t)
-      (λ t. t.due)
-      (λ t. eqb t.number n)
-      m.live
-      (all_of (λ t. go t (eqb t.number n)) m.live)
-      ∙ ap (λ k. dues (changed n (λ t. with_due t 0) m.live) + k)
-      (one_ticket (is_live m.game) (λ t. t.due) n 1 m.live orderly.numbers here)
+  claim_owed = figure_moved (λ t. t.due) (λ t. with_due t 0) (λ t. t.due) (λ t. omega arith)
+
+  pub collect_owed :
+      dues m.live
+      ≡ dues (changed n (collected_ticket m) m.live ++ (reissued_ticket m (ticket_at n (house_of m).live) ∷ []))
+      + (ticket_at n (house_of m).live).due
+  collect_owed =
+      let t = ticket_at n (house_of m).live in
+      let ends : (u : Ticket) → (collected_ticket m u).due ≡ 0 = λ u. finished_due m.day m.game (with_stop (with_due u 0) m.game) in
+      figure_moved (λ u. u.due) (collected_ticket m) (λ u. u.due) (λ u. omega (arith, ends u))
+      ∙ ap (λ k. k + t.due)
+      (sym (sum_snoc (λ u. u.due) (changed n (collected_ticket m) m.live) (reissued_ticket m t) ∙ add-zero (dues (changed n (collected_ticket m) m.live))))
+
+  -- the games that are reissued stay held
+  pub collect_held :
+      stakes_held m.game (changed n (collected_ticket m) m.live ++ (reissued_ticket m (ticket_at n (house_of m).live) ∷ []))
+      ≡ stakes_held m.game m.live
+  unfolding paid_stakes
+  collect_held =
+      sum_snoc (held_for m.game) (changed n (collected_ticket m) m.live) (reissued_ticket m (ticket_at n (house_of m).live))
+      ∙ sym (figure_moved (held_for m.game) (collected_ticket m) (held_for m.game) (λ t. omega (arith, ended t)))
     where
-      go : (t : Ticket) (b : Bool) → t.due ≡ (cond b (with_due t 0) t).due + cond b t.due 0
-      go t true = omega arith
-      go t false = omega arith
+      ended : (t : Ticket) → held_for m.game (collected_ticket m t) ≡ 0
+      ended t =
+          finished_held m.day m.game m.game (with_stop (with_due t 0) m.game)
+          ∙ stakes_none (max t.first m.game) m.game (with_stop (with_due t 0) m.game) (omega arith)
 
 -- ---- Sell
 

@@ -3,7 +3,7 @@
 use Prim.Native.Nat.{ℕ, suc, ◌+◌, ◌-◌, ◌≤◌, ◌<◌, min, max}
 use mathlib.Core.Path.{◌≡◌, refl, sym, ap, ap₂, ◌∙◌}
 use mathlib.Core.Bool.{Bool, true, false, cond, not, ◌&&◌, and-not_self}
-use mathlib.Core.List.{List, [], ◌∷◌, map, map-map}
+use mathlib.Core.List.{List, [], ◌∷◌, ◌++◌, map, map-map, map-append}
 use native.Mathlib.Omega.{arith}
 use lib.Dec.{ltb, leb, eqb}
 use lib.ListN.{length, length-map}
@@ -13,10 +13,11 @@ use Rattle.sale.specs.Checks.{Operands}
 use Rattle.calendar.specs.Calendar.{has_expired}
 use Rattle.house.specs.Tickets.{Ticket, runs_in, games_left, paid_stakes, is_finished, is_live, with_due, with_stop, with_finished_day}
 use Rattle.house.specs.Model.{Model, is_drawing, next_game}
-use Rattle.house.specs.Commands.{sold_ticket, changed, cancel_stop, cancelled_ticket, finished_on, awarded, is_expired}
-use Rattle.house.specs.Sheet.{Line, games_from, stakes_of, left_with, due_with, on_line, new_line, stays, taken_off, settle_lines, too_late}
-use Rattle.house.proofs.Ledger.{All, Kept, line_of, sheet_for}
-use Rattle.house.proofs.MoneyLaws.{all_of, all_from, map_same}
+use Rattle.house.specs.Commands.{ticket_at, has_ticket, sold_ticket, changed, still_live, cancel_stop, cancelled_ticket, finished_on, awarded, is_expired, collected_ticket, reissued_ticket}
+use Rattle.house.specs.Sheet.{Line, games_from, stakes_of, left_with, due_with, on_line, new_line, stays, taken_off, settle_lines, too_late, reissued_line}
+use Rattle.house.proofs.Ledger.{All, Kept, Orderly, house_of, collected_ledger, line_of, sheet_for}
+use Rattle.house.proofs.MoneyLaws.{all_of, all_from, map_same, keep_map}
+use Rattle.house.proofs.Numbered.{found, alone}
 use Rattle.house.proofs.SpanLaws.{length_games, keep_games, keep_below, span_above, plays_left, idle_first, idle_left, drawn_left, stakes_of_line}
 use Rattle.house.proofs.LiveTickets.{closed_of, next_game_least}
 
@@ -174,6 +175,41 @@ pub claimed_lines : (game n : ℕ) (ts : List Ticket) →
     on_line n (due_with 0) (map (line_of game) ts) ≡ map (line_of game) (changed n (λ t. with_due t 0) ts)
 unfolding games_left
 claimed_lines game n ts = changed_lines game n (due_with 0) (λ t. with_due t 0) ts (all_of (λ t. refl) ts)
+
+-- ---- Collect
+
+-- the line of the old number has no game left
+ended_line : (m : Model) (t : Ticket) → Kept m.game t →
+    left_with m.day [] (due_with 0 (line_of m.game t)) ≡ line_of m.game (collected_ticket m t)
+unfolding games_left games_from
+ended_line m t kept =
+    let none : 0 ≡ m.game - max t.first m.game = omega arith in
+    left_line m.day m.game (with_stop (with_due t 0) m.game) (line_of m.game t).left [] (ap (games_from (max t.first m.game)) none) (unset_left m.game t kept)
+
+-- and that of the new one has those that were left
+reissued_line_lem : (m : Model) (t : Ticket) → Orderly m → Kept m.game t → is_finished m.game t ≡ false →
+    reissued_line (sheet_for m) (line_of m.game t) ≡ line_of m.game (reissued_ticket m t)
+unfolding games_left
+reissued_line_lem m t orderly kept running =
+    let number : length (map (line_of m.game) m.live) + 1 ≡ m.issued + 1 = omega (arith, length-map m.live (line_of m.game), orderly.issued) in
+    let day : 0 ≡ t.finished_day = sym (kept.running (eqb-false _ _ running)) in
+    λ i. record { number = number i; operands = t.operands; first = t.first; left = (line_of m.game t).left; due = 0; finishing_day = day i }
+
+pub collected_lines : (m : Model) (n : ℕ) → Orderly m → has_ticket n (house_of m).live ≡ true → is_finished m.game (ticket_at n (house_of m).live) ≡ false →
+    on_line n (λ l. left_with m.day [] (due_with 0 l)) (map (line_of m.game) m.live)
+    ++ map (reissued_line (sheet_for m)) (keep (λ l. eqb l.number n) (map (line_of m.game) m.live))
+    ≡ map (line_of m.game) (collected_ledger n m).live
+unfolding still_live
+collected_lines m n orderly here running =
+    ap₂ ◌++◌
+    (changed_lines m.game n (λ l. left_with m.day [] (due_with 0 l)) (collected_ticket m) m.live (all_from (λ t k. ended_line m t k) m.live orderly.tickets))
+    (ap (map (reissued_line (sheet_for m)))
+    (keep_map (λ l. eqb l.number n) (line_of m.game) m.live ∙ ap (map (line_of m.game)) (alone n (is_live m.game) 1 m.live orderly.numbers here))
+    ∙ ap (λ l. l ∷ []) (reissued_line_lem m t orderly (found n (Kept m.game) (is_live m.game) m.live orderly.tickets here).0 running))
+    ∙ sym (map-append (line_of m.game) (changed n (collected_ticket m) m.live) (reissued_ticket m t ∷ []))
+  where
+    t : Ticket
+    t = ticket_at n (house_of m).live
 
 -- ---- Expire
 

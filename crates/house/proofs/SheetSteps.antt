@@ -16,16 +16,16 @@ use Rattle.sale.specs.Lists.{sum, keep}
 use Rattle.sale.specs.Checks.{Operands, charge_of}
 use Rattle.prizes.specs.Jackpots.{pooled}
 use Rattle.prizes.specs.Settle.{Settled}
-use Rattle.house.specs.Tickets.{Ticket, runs_in, paid_stakes, held_for, entry_of}
+use Rattle.house.specs.Tickets.{Ticket, runs_in, is_finished, paid_stakes, held_for, entry_of}
 use Rattle.house.specs.Model.{Model, with_taken, with_paid, with_refunded, with_unclaimed, with_transferred, with_gained, with_lost, with_seeds}
-use Rattle.house.specs.Commands.{open', sell, cancel, ball, claim, expire, transfer, has_ticket, opened, sold, sold_ticket, cancelled, balls_with, settles, settlement, running_in, stakes_drawn, awarded, finished_on, after_game, game_settled, ball_entered, claimed, expired, transferred, with_primary}
+use Rattle.house.specs.Commands.{open', sell, cancel, ball, claim, expire, transfer, collect, ticket_at, has_ticket, opened, sold, sold_ticket, cancelled, balls_with, settles, settlement, running_in, stakes_drawn, awarded, finished_on, after_game, game_settled, ball_entered, claimed, expired, transferred, collected, with_primary}
 use Rattle.house.specs.Till.{till_of}
-use Rattle.house.specs.Sheet.{Sheet, sheet_with, game_with, pools_with, on_figure, new_line, moved, sheet_open, sheet_sell, sheet_cancel, stakes_played, sheet_settlement, sheet_settle, sheet_ball, twentieth, sheet_claim, sheet_expire, sheet_transfer, primary_with}
+use Rattle.house.specs.Sheet.{Sheet, sheet_with, game_with, pools_with, on_figure, new_line, moved, sheet_open, sheet_sell, sheet_cancel, stakes_played, sheet_settlement, sheet_settle, sheet_ball, twentieth, sheet_claim, sheet_expire, sheet_transfer, sheet_collect, primary_with}
 use Rattle.house.specs.Balance.{Balanced}
-use Rattle.house.proofs.Ledger.{Orderly, house_of, ended_tickets, cancelled_ledger, claimed_ledger, expired_ledger, settled_ledger, line_of, sheet_for}
+use Rattle.house.proofs.Ledger.{Orderly, house_of, ended_tickets, cancelled_ledger, claimed_ledger, expired_ledger, collected_ledger, settled_ledger, line_of, sheet_for}
 use Rattle.house.proofs.MoneyLaws.{sum_snoc, sum_unmoved}
-use Rattle.house.proofs.SheetLines.{sold_line, cancelled_lines, claimed_lines, expired_lines, settled_lines}
-use Rattle.house.proofs.SheetFigures.{till_from, dues, stakes_held, sold_held, cancel_total, cancel_held, cancel_owed, claim_total, claim_owed, claim_held, late_dues_lem, expire_owed, expire_held, finished_due, finished_held, awarded_owed, drawn_held, settlements_alike, stakes_alike}
+use Rattle.house.proofs.SheetLines.{sold_line, cancelled_lines, claimed_lines, collected_lines, expired_lines, settled_lines}
+use Rattle.house.proofs.SheetFigures.{till_from, dues, stakes_held, sold_held, cancel_total, cancel_held, cancel_owed, claim_total, claim_owed, claim_held, collect_owed, collect_held, late_dues_lem, expire_owed, expire_held, finished_due, finished_held, awarded_owed, drawn_held, settlements_alike, stakes_alike}
 use Rattle.house.proofs.LiveTickets.{awarded_keeps, running_live}
 use Rattle.prizes.proofs.SettleLaws.{awards_count, awards_sum, pools_balance}
 
@@ -92,6 +92,22 @@ module _ (m : Model) (n : ℕ) (orderly : Orderly m) (here : has_ticket n (house
   pub claimed_balance : Balanced (till_of m) → Balanced (till_of (claimed_ledger n m))
   unfolding claimed till_of
   claimed_balance balance = omega (arith, balance, claim_owed m n orderly here, claim_held m n)
+
+-- ---- Collect
+
+module _ (m : Model) (n : ℕ) (orderly : Orderly m) (here : has_ticket n (house_of m).live ≡ true) where
+  pub collected_sheet : is_finished m.game (ticket_at n (house_of m).live) ≡ false → moved (collect n) (sheet_for m) ≡ sheet_for (collected_ledger n m)
+  unfolding moved sheet_collect on_figure collected till_of
+  collected_sheet running =
+      let due = claim_total m n orderly here in
+      λ i.
+      sheet_with (collected_lines m n orderly here running i)
+      (till_from (with_paid (due i) m.counters) (taken_off_sum (collect_owed m n orderly here) due i) (sym (collect_held m n orderly here) i) (till_of m).pooled)
+      (sheet_for m)
+
+  pub collected_balance : Balanced (till_of m) → Balanced (till_of (collected_ledger n m))
+  unfolding collected till_of
+  collected_balance balance = omega (arith, balance, collect_owed m n orderly here, collect_held m n orderly here)
 
 -- ---- Expire
 

@@ -8,7 +8,7 @@ use lib.Dec.{eqb}
 use borrow.Author.Tests.{eqb-true, eqb-false}
 use Rattle.sale.specs.Lists.{keep}
 use Rattle.house.specs.Model.{Model, fresh}
-use Rattle.house.specs.Commands.{Command, claim, Answer, code_of, act, reply, answer_of, step, still_live, running_in}
+use Rattle.house.specs.Commands.{Command, claim, collect, Answer, code_of, act, reply, answer_of, step, still_live, running_in}
 use Rattle.house.specs.Till.{till_of}
 use Rattle.house.specs.Sheet.{Sheet, playing, sheet_reply}
 use Rattle.house.specs.Claims.{Log, sheet_of, PlaysExactly, won_by}
@@ -18,7 +18,7 @@ use Rattle.house.proofs.OrderlyLedgers.{orderly_fresh}
 use Rattle.house.proofs.SheetFigures.{till_of_house}
 use Rattle.house.proofs.SheetAnswers.{balanced_fresh}
 use Rattle.house.proofs.LogLaws.{logged}
-use Rattle.house.proofs.Won.{Told, told_fresh, told_refused, claim_pays}
+use Rattle.house.proofs.Won.{Told, told_fresh, told_refused, claim_pays, collect_due}
 use Rattle.house.proofs.Players.{house_players, sheet_players}
 use Rattle.house.proofs.Bounded.{Bounded, bounded_fresh, figures_fit}
 use Rattle.house.proofs.OneCommand.{refused_unchanged, accepted_done, accepted_code}
@@ -124,6 +124,12 @@ claim_in h log n b accepted =
     ap (λ (a : Answer). a.cents) (answer_there h log (claim n) b accepted)
     ∙ claim_pays b.ledger log n b.told (accepted_there h log (claim n) b (code_there h log (claim n) b accepted))
 
+collect_in : (h : Model) (log : Log) (n : ℕ) (b : Booked h log) → (step h (collect n)).answer.code ≡ 0 → (step h (collect n)).answer.cents ≡ won_by n log
+unfolding reply
+collect_in h log n b accepted =
+    ap (λ (a : Answer). a.cents) (answer_there h log (collect n) b accepted)
+    ∙ (collect_due b.ledger log n b.told (accepted_there h log (collect n) b (code_there h log (collect n) b accepted))).won
+
 -- who plays in the current game of a booked house
 players_in : (h : Model) (log : Log) → Booked h log
     → PlaysExactly log (map (λ t. t.number) (running_in h)) × PlaysExactly log (map (λ l. l.number) (playing (sheet_of log)))
@@ -147,6 +153,7 @@ till_balances cs =
       plays = λ before after n split accepted last. players_in (run before).house (run before).log (booked before);
       once = b.told.once;
       pays = λ before after n split accepted. claim_in (run before).house (run before).log n (booked before) accepted;
+      collects = λ before after n split accepted. collect_in (run before).house (run before).log n (booked before) accepted;
     }
 
 -- a reached house is booked, with some log
@@ -162,11 +169,16 @@ reply_shown m c r short accepted =
     subst⁻¹ (λ (h : Model). Shown (reply h c)) b.house
     (f.shown short (figures_fit b.ledger b.bounded b.balanced) (figures_fit f.ledger f.bounded f.balanced))
 
+-- one command more at the end of a list
+pub run_more : (cs : List Command) (s : State) (c : Command) → run_from s (cs ++ (c ∷ [])) ≡ next (run_from s cs) c
+unfolding run_from
+run_more [] s c = refl
+run_more (k ∷ cs) s c = run_more cs (next s k) c
+
 -- a command keeps a house reached
 pub reached_more : (cs : List Command) (s : State) (c : Command) → (run_from s (cs ++ (c ∷ []))).house ≡ (step (run_from s cs).house c).house
-unfolding run_from next
-reached_more [] s c = refl
-reached_more (k ∷ cs) s c = reached_more cs (next s k) c
+unfolding next
+reached_more cs s c = ap (λ (t : State). t.house) (run_more cs s c)
 
 pub reached_step : (m : Model) (c : Command) → Reached m → Reached (step m c).house
 reached_step m c r =

@@ -1,31 +1,33 @@
 -- What the log tells of the ledger: the sheet, the progress of the games, in which games each ticket runs, and that its due is everything its drawn
--- games won until a payment or an expiry moves the due, which happens once. Each command, refused or accepted, keeps it so.
+-- games won until a payment, a collection or an expiry moves the due, which happens once. Each command, refused or accepted, keeps it so.
 use Prim.Native.Nat.{ℕ, ◌+◌, ◌-◌, ◌≤◌, ◌<◌, min, max}
 use native.Mathlib.Omega.{arith}
 use mathlib.Core.Path.{◌≡◌, refl, sym, ◌∙◌, ap, subst, subst⁻¹}
 use mathlib.Core.Bool.{Bool, true, false, cond, not, ◌&&◌}
+use mathlib.Core.Logic.{◌⊎◌, inl, inr}
 use mathlib.Core.List.{List, [], ◌∷◌, ◌++◌, map}
 use lib.Dec.{ltb, leb, eqb}
 use lib.ListN.{length, length-append, length-map}
-use borrow.Author.Tests.{ltb-true, leb-true, eq-eqb, ne_eqb, eqb-true, eqb-false}
+use borrow.Author.Tests.{le-leb, le-ltb, ltb-true, leb-true, eq-eqb, ne_eqb, eqb-true, eqb-false}
 use Rattle.prizes.specs.Hits.{draw_of}
 use Rattle.sale.specs.Lists.{sum, keep, member}
 use Rattle.sale.specs.Checks.{Operands}
 use Rattle.house.specs.Tickets.{Ticket, runs_in, games_left, is_finished, is_live, entry_of, with_due, with_stop, with_finished_day}
 use Rattle.house.specs.Model.{Model, fresh, next_game}
-use Rattle.house.specs.Commands.{Command, open', sell, cancel, ball, claim, expire, transfer, code_of, reply, opened, sold, cancelled, claimed, expired, transferred, still_live, changed, cancel_stop, is_expired, ticket_at, sold_ticket, cancelled_ticket, settles, ball_entered, game_settled, settlement, running_in, finished_on}
+use Rattle.house.specs.Commands.{Command, open', sell, cancel, ball, claim, expire, transfer, collect, code_of, reply, opened, sold, cancelled, claimed, expired, transferred, still_live, changed, cancel_stop, is_expired, ticket_at, sold_ticket, cancelled_ticket, settles, ball_entered, game_settled, settlement, running_in, finished_on, has_ticket, collected_ticket, reissued_ticket, collected}
 use Rattle.house.specs.Sheet.{Sheet, Line, playing, sheet_settlement}
 use Rattle.house.specs.Till.{till_of}
-use Rattle.house.specs.Claims.{Log, Logged, sheet_of, nothing, issues, takes_off, draws, pays, effect_of, effect_in, Progress, nineteen_in, progress_after, progress_of, game_of, next_of, Span, games_of, span_of, award_at, won_by, payments_after, payments}
-use Rattle.house.proofs.Ledger.{house_of, cancelled_ledger, claimed_ledger, expired_ledger, settled_ledger, line_of, sheet_for, All, Orderly}
+use Rattle.house.specs.Claims.{Log, Logged, sheet_of, Effect, nothing, issues, takes_off, draws, reissues, effect_of, effect_in, Progress, nineteen_in, progress_after, progress_of, game_of, next_of, Span, games_of, span_of, award_at, won_by, payments_after, payments}
+use Rattle.house.proofs.Ledger.{house_of, cancelled_ledger, claimed_ledger, expired_ledger, collected_ledger, settled_ledger, line_of, sheet_for, All, Orderly}
 use Rattle.house.proofs.LiveTickets.{running_live, next_game_least}
 use Rattle.house.proofs.ListLaws.{All-map, All-append}
 use Rattle.house.proofs.MoneyLaws.{all_from}
 use Rattle.house.proofs.SheetFigures.{settlements_alike}
-use Rattle.house.proofs.Refusals.{and_true, ClaimAccepted, claim_accepted}
+use Rattle.house.proofs.Refusals.{and_true, ClaimAccepted, claim_accepted, CollectAccepted, collect_accepted}
 use Rattle.house.proofs.Numbered.{all_both, Within, row_within, found, only}
+use Rattle.house.proofs.RowLists.{earlier_or_not}
 use Rattle.house.proofs.AwardLaws.{awarded_at, awarded_by_number, playing_lines}
-use Rattle.house.proofs.LogLaws.{logged, span_has, games_cut, sheet_refused, effect_refused, SameTold, Untouched, untouched, nothing_won, award_now, issued_span, taken_off_lem, game_drawn, number_paid}
+use Rattle.house.proofs.LogLaws.{logged, and_false, span_has, games_cut, sheet_refused, effect_refused, SameTold, Untouched, untouched, nothing_won, award_now, issued_span, taken_off_lem, game_drawn, number_paid, reissued_span, kept_span, number_collected}
 use Rattle.prizes.proofs.SettleLaws.{awards_count}
 
 -- a ticket's due: what it has won, and it was not paid; or nothing, since it was moved when no game was left
@@ -40,6 +42,8 @@ RunsBy game s first stop = (g : ℕ) → game ≤ g → (leb first g && ltb g st
 -- what the log tells of a ticket where the given game is the current one
 pub record Follows (game : ℕ) (log : Log) (number first stop due : ℕ) : Type 0 where
   pub runs : RunsBy game (span_of number log) first stop
+  -- a ticket begins no later than its span, before which it wins nothing; one that was reissued begins earlier
+  pub begins : first ≤ (span_of number log).first
   pub dues : Dues due (won_by number log) (stop - max first game) (payments number log)
 
 abbrev pub TicketTold : ℕ → Log → Ticket → Type 0
@@ -68,7 +72,11 @@ follows_same : {game : ℕ} {before log : Log} {number first stop due : ℕ}
     → Follows game before number first stop due
     → Follows game log number first stop due
 follows_same {game} {before} {log} {number} {first} {stop} {due} same f =
-    record { runs = subst⁻¹ (λ (s : Span). RunsBy game s first stop) same.span f.runs; dues = go f.dues }
+    record {
+      runs = subst⁻¹ (λ (s : Span). RunsBy game s first stop) same.span f.runs;
+      begins = subst⁻¹ (λ (s : Span). first ≤ s.first) same.span f.begins;
+      dues = go f.dues;
+    }
   where
     go : Dues due (won_by number before) (stop - max first game) (payments number before)
         → Dues due (won_by number log) (stop - max first game) (payments number log)
@@ -92,7 +100,11 @@ due_moved : (game : ℕ) (before log : Log) (t : Ticket) (goes : Bool)
     → TicketTold game log (cond goes (with_due t 0) t)
 unfolding games_left
 due_moved game before log t true span finished same f =
-    record { runs = subst⁻¹ (λ (s : Span). RunsBy game s t.first t.stop) span f.runs; dues = moved refl (finished refl) }
+    record {
+      runs = subst⁻¹ (λ (s : Span). RunsBy game s t.first t.stop) span f.runs;
+      begins = subst⁻¹ (λ (s : Span). t.first ≤ s.first) span f.begins;
+      dues = moved refl (finished refl);
+    }
 due_moved game before log t false span finished same f = follows_same (same refl) f
 
 -- ---- a command without effect
@@ -169,26 +181,44 @@ told_expire m log told sheet =
 
 -- ---- Claim
 
--- of the ticket that a claim is accepted for: everything it won is due, and it was not paid before
-pub claim_due : (m : Model) (log : Log) (n : ℕ)
+-- of a live ticket that is due something: that is everything it won, it was not paid before, and it is begun
+pub record DueTold (game : ℕ) (log : Log) (n : ℕ) (t : Ticket) : Type 0 where
+  pub won : t.due ≡ won_by n log
+  pub unpaid : payments n log ≡ 0
+  pub begun : t.first < game
+  pub span_begun : (span_of n log).first < game
+
+pub due_told : (m : Model) (log : Log) (n : ℕ)
     → Told m log
-    → code_of (house_of m) (claim n) ≡ 0
-    → ((ticket_at n (house_of m).live).due ≡ won_by n log) × (payments n log ≡ 0)
+    → has_ticket n (house_of m).live ≡ true
+    → ((ticket_at n (house_of m).live).due ≡ 0 → ⊥)
+    → DueTold m.game log n (ticket_at n (house_of m).live)
 unfolding still_live
-claim_due m log n told accept =
-    let facts = claim_accepted (house_of m) n accept in
-    let here = found n (TicketTold m.game log) (is_live m.game) m.live told.tickets facts.here in
-    go facts.due
-    (subst (λ (k : ℕ). Dues t.due (won_by k log) (t.stop - max t.first m.game) (payments k log)) here.1 here.0.dues)
+due_told m log n told has due =
+    subst (λ (k : ℕ). DueTold m.game log k t) here.1 (go here.0.dues (earlier_or_not (span_of t.number log).first m.game))
   where
     t : Ticket
     t = ticket_at n (keep (is_live m.game) m.live)
 
-    go : (t.due ≡ 0 → ⊥)
-        → Dues t.due (won_by n log) (t.stop - max t.first m.game) (payments n log)
-        → (t.due ≡ won_by n log) × (payments n log ≡ 0)
-    go due (owed is none) = (is, none)
-    go due (moved is none) = absurd (due is)
+    here : TicketTold m.game log t × (t.number ≡ n)
+    here = found n (TicketTold m.game log) (is_live m.game) m.live told.tickets has
+
+    go : Dues t.due (won_by t.number log) (t.stop - max t.first m.game) (payments t.number log)
+        → ((span_of t.number log).first < m.game) ⊎ (m.game ≤ (span_of t.number log).first)
+        → DueTold m.game log t.number t
+    go (owed is none) (inl earlier) = record { won = is; unpaid = none; begun = omega (arith, here.0.begins); span_begun = earlier }
+    go (owed is none) (inr later) = absurd (due (is ∙ nothing_won t.number log (omega (arith, game_told m log told))))
+    go (moved is none) when = absurd (due is)
+
+-- so of the ticket that a claim is accepted for
+pub claim_due : (m : Model) (log : Log) (n : ℕ)
+    → Told m log
+    → code_of (house_of m) (claim n) ≡ 0
+    → ((ticket_at n (house_of m).live).due ≡ won_by n log) × (payments n log ≡ 0)
+claim_due m log n told accept =
+    let facts = claim_accepted (house_of m) n accept in
+    let due = due_told m log n told facts.here facts.due in
+    (due.won, due.unpaid)
 
 pub claim_pays : (m : Model) (log : Log) (n : ℕ)
     → Told m log
@@ -199,11 +229,11 @@ claim_pays m log n told accept = (claim_due m log n told accept).0
 
 -- a number that was not paid before is paid once
 paid_once : (e : Logged) (log : Log) (k n : ℕ)
-    → effect_in e ≡ pays k
+    → payments n (e ∷ log) ≡ cond (eqb k n) (payments n log + 1) (payments n log)
     → payments k log ≡ 0
     → payments n log ≤ 1
     → payments n (e ∷ log) ≤ 1
-paid_once e log k n is none once = go (eqb k n) refl (number_paid e log k n is).2
+paid_once e log k n more none once = go (eqb k n) refl more
   where
     go : (b : Bool) → eqb k n ≡ b → payments n (e ∷ log) ≡ cond b (payments n log + 1) (payments n log) → payments n (e ∷ log) ≤ 1
     go true same paid =
@@ -240,7 +270,7 @@ told_claim m log n orderly told accept sheet =
           m.live
           (all_both (TicketTold m.game log) (λ t. t.number ≡ n → ticket_at n (house_of m).live ≡ t) m.live told.tickets
           (only n (is_live m.game) 1 m.live orderly.numbers facts.here));
-      once = λ k. paid_once (logged (claim n) 0) log n k refl (claim_due m log n told accept).1 (told.once k);
+      once = λ k. paid_once (logged (claim n) 0) log n k (number_paid (logged (claim n) 0) log n k refl).2 (claim_due m log n told accept).1 (told.once k);
       unissued = λ k h.
           (untouched k log (logged (claim n) 0) (λ same. omega (arith, facts.issued))).paid ∙ told.unissued k h;
     }
@@ -267,6 +297,7 @@ sell_ticket m log o told =
       runs =
           subst⁻¹ (λ (s : Span). RunsBy m.game s (next_game m) (next_game m + o.games)) span
           (λ g from. sym (span_has g (record { first = next_game m; stop = next_game m + o.games })));
+      begins = omega (arith, start);
       dues = owed (sym won) (told.unissued number (omega arith));
     }
 
@@ -326,6 +357,7 @@ cancel_ticket_here m log e t told is f =
       runs =
           subst⁻¹ (λ (s : Span). RunsBy m.game s t.first (min t.stop (cancel_stop m t))) span
           (cut_alike m.game (next_game m) t.first t.stop before f.runs);
+      begins = subst⁻¹ (λ (s : Span). t.first ≤ s.first) span f.begins;
       dues = go after.1 after.2 f.dues;
     }
   where
@@ -365,6 +397,117 @@ told_cancel m log n told sheet =
       once = told.once;
       unissued = told.unissued;
     }
+
+-- ---- Collect
+
+-- the old number keeps the games before the current one, and the next number has the others
+ended_runs : (game first : ℕ) (s : Span) → RunsBy game (record { first = s.first; stop = min s.stop game }) first game
+ended_runs game first s g from =
+    let kept : Span = record { first = s.first; stop = min s.stop game } in
+    ap (λ b. leb first g && b) (le-ltb g game from)
+    ∙ and_false (leb first g)
+    ∙ sym (span_has g kept ∙ ap (λ b. leb s.first g && b) (le-ltb g (min s.stop game) (omega arith)) ∙ and_false (leb s.first g))
+
+reissued_runs : (game first stop : ℕ) (s : Span) → s.first ≤ game → RunsBy game s first stop → RunsBy game (record { first = game; stop = s.stop }) first stop
+reissued_runs game first stop s begun runs g from =
+    runs g from
+    ∙ span_has g s
+    ∙ ap (λ b. b && ltb g s.stop) (le-leb s.first g (omega arith) ∙ sym (le-leb game g from))
+    ∙ sym (span_has g (record { first = game; stop = s.stop }))
+
+module _ (m : Model) (log : Log) (n : ℕ) (told : Told m log) (accept : code_of (house_of m) (collect n) ≡ 0) where
+  abbrev collection : Logged
+  collection = logged (collect n) 0
+
+  abbrev collected_log : Log
+  collected_log = collection ∷ log
+
+  abbrev old : Ticket
+  old = ticket_at n (house_of m).live
+
+  collects : effect_in collection ≡ reissues n
+  unfolding effect_in effect_of
+  collects = refl
+
+  accepted : CollectAccepted (house_of m) n
+  accepted = collect_accepted (house_of m) n accept
+
+  pub collect_due : DueTold m.game log n old
+  collect_due = due_told m log n told accepted.here accepted.due
+
+  -- the old number is not the next
+  not_next : (progress_of log).issued + 1 ≡ n → ⊥
+  not_next same = omega (arith, issued_told m log told, accepted.issued)
+
+  game_after : game_of collected_log ≡ m.game
+  unfolding progress_of progress_after
+  game_after = ap (λ (effect : Effect). (progress_after (progress_of log) effect).game) collects ∙ game_told m log told
+
+  none_paid : (k : ℕ) → m.issued < k → payments k collected_log ≡ 0
+  none_paid k later =
+      number_collected collection log n collects k
+      ∙ ap (λ (same : Bool). cond same (payments k log + 1) (payments k log)) (ne_eqb n k (λ same. omega (arith, accepted.issued)))
+      ∙ told.unissued k later
+
+  ended_ticket : (t : Ticket) → t.number ≡ n → TicketTold m.game log t → TicketTold m.game collected_log (collected_ticket m t)
+  ended_ticket t is f =
+      let before : Span = span_of n log in
+      let span : span_of n collected_log ≡ record { first = before.first; stop = min before.stop m.game } =
+      kept_span collection log n collects not_next ∙ (λ i. record { first = before.first; stop = min before.stop (game_told m log told i) }) in
+      let ended : Ticket = with_stop (with_due t 0) m.game in
+      finished_day_lem m.game collected_log ended (is_finished m.game ended && eqb ended.finished_day 0) m.day
+      (subst⁻¹ (λ (k : ℕ). Follows m.game collected_log k t.first m.game 0) is
+      (record {
+        runs = subst⁻¹ (λ (s : Span). RunsBy m.game s t.first m.game) span (ended_runs m.game t.first before);
+        begins = subst⁻¹ (λ (s : Span). t.first ≤ s.first) span (subst (λ (k : ℕ). t.first ≤ (span_of k log).first) is f.begins);
+        dues = moved refl (omega arith);
+      }))
+
+  collected_at : (t : Ticket) → TicketTold m.game log t × Within 1 (1 + length m.live) t → Orderly m
+      → TicketTold m.game collected_log (cond (eqb t.number n) (collected_ticket m t) t)
+  collected_at t (f, within) orderly = go (eqb t.number n) refl
+    where
+      go : (here : Bool) → eqb t.number n ≡ here → TicketTold m.game collected_log (cond here (collected_ticket m t) t)
+      go true here = ended_ticket t (eqb-true t.number n here) f
+      go false other =
+          follows_same
+          (untouched t.number log collection
+          (subst⁻¹ (Untouched t.number log) collects
+          (λ next. omega (arith, within.1, orderly.issued, issued_told m log told), λ same. eqb-false t.number n other (sym same)))) f
+
+  new_ticket : TicketTold m.game collected_log (reissued_ticket m old)
+  unfolding still_live
+  new_ticket =
+      let number : ℕ = m.issued + 1 in
+      let before : Span = span_of n log in
+      let span : span_of number collected_log ≡ record { first = m.game; stop = before.stop } =
+      reissued_span collection log n collects number (ap (λ (k : ℕ). k + 1) (issued_told m log told))
+      ∙ (λ i. record { first = game_told m log told i; stop = before.stop }) in
+      let start : (span_of number collected_log).first ≡ m.game = ap (λ (s : Span). s.first) span in
+      let here = found n (TicketTold m.game log) (is_live m.game) m.live told.tickets accepted.here in
+      let runs : RunsBy m.game before old.first old.stop = subst (λ (k : ℕ). RunsBy m.game (span_of k log) old.first old.stop) here.1 here.0.runs in
+      record {
+        runs = subst⁻¹ (λ (s : Span). RunsBy m.game s old.first old.stop) span
+            (reissued_runs m.game old.first old.stop before (omega (arith, collect_due.span_begun)) runs);
+        begins = omega (arith, start, collect_due.begun);
+        dues = owed (sym (nothing_won number collected_log (omega (arith, start, game_after)))) (none_paid number (omega arith));
+      }
+
+  pub told_collect : Orderly m → After log (collect n) (collected_ledger n m)
+  unfolding collected changed still_live effect_in effect_of progress_of progress_after
+  told_collect orderly sheet =
+      record {
+        sheet = sheet;
+        progress = ap (λ (p : Progress). progress_after p (reissues n)) told.progress;
+        tickets =
+            All-append (TicketTold m.game collected_log) (changed n (collected_ticket m) m.live) (reissued_ticket m old ∷ [])
+            (All-map (λ t. TicketTold m.game log t × Within 1 (1 + length m.live) t) (TicketTold m.game collected_log)
+            (λ t. cond (eqb t.number n) (collected_ticket m t) t) (λ t h. collected_at t h orderly) m.live
+            (all_both (TicketTold m.game log) (Within 1 (1 + length m.live)) m.live told.tickets (row_within 1 m.live orderly.numbers)))
+            (new_ticket, tt);
+        once = λ k. paid_once collection log n k (number_collected collection log n collects k) collect_due.unpaid (told.once k);
+        unissued = λ k h. none_paid k (omega arith);
+      }
 
 -- ---- Ball
 
@@ -421,19 +564,22 @@ settled_ticket m log e b lines awards t is game last award f = go (runs_in m.gam
     later : RunsBy (m.game + 1) (span_of t.number (e ∷ log)) t.first t.stop
     later = subst⁻¹ (λ (s : Span). RunsBy (m.game + 1) s t.first t.stop) after.0 (λ g from. f.runs g (omega arith))
 
+    begins : t.first ≤ (span_of t.number (e ∷ log)).first
+    begins = subst⁻¹ (λ (s : Span). t.first ≤ s.first) after.0 f.begins
+
     go : (runs : Bool)
         → (leb t.first m.game && ltb m.game t.stop) ≡ runs
         → won_by t.number (e ∷ log) ≡ won_by t.number log + cond runs cents 0
         → Dues t.due (won_by t.number log) (t.stop - max t.first m.game) (payments t.number log)
         → TicketTold (m.game + 1) (e ∷ log) (cond runs (with_due t (t.due + cents)) t)
-    go true runs more (owed is none) = record { runs = later; dues = owed (omega arith) (after.2 ∙ none) }
+    go true runs more (owed is none) = record { runs = later; begins = begins; dues = owed (omega arith) (after.2 ∙ none) }
     go true runs more (moved is none) =
         let both = and_true _ _ runs in
         let low : t.first ≤ m.game = leb-true t.first m.game both.0 in
         let high : m.game < t.stop = ltb-true m.game t.stop both.1 in
         absurd (omega arith)
-    go false idle more (owed is none) = record { runs = later; dues = owed (omega arith) (after.2 ∙ none) }
-    go false idle more (moved is none) = record { runs = later; dues = moved is (omega arith) }
+    go false idle more (owed is none) = record { runs = later; begins = begins; dues = owed (omega arith) (after.2 ∙ none) }
+    go false idle more (moved is none) = record { runs = later; begins = begins; dues = moved is (omega arith) }
 
 -- as many awards as tickets of the ledger that run in the game
 award_count : (m : Model) (b : ℕ) → length (settlement b (house_of m)).awards ≡ length (keep (runs_in m.game) m.live)

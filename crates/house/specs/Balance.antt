@@ -2,7 +2,7 @@
 -- last one left." The statement; the proof is till_balances in proofs/Theorem.antt.
 use Rattle.std.specs.Prelude.{ℕ, ◌+◌, ◌≤◌, ◌≡◌, List, [], ◌∷◌, ◌++◌, map}
 use Rattle.house.specs.Model.{Model, fresh}
-use Rattle.house.specs.Commands.{Command, ball, claim, Answer, running_in, step}
+use Rattle.house.specs.Commands.{Command, ball, claim, collect, Answer, running_in, step}
 use Rattle.house.specs.Till.{Figures, till_of}
 use Rattle.house.specs.Sheet.{playing, sheet_reply}
 use Rattle.house.specs.Claims.{Log, sheet_of, payments, PlaysExactly, won_by}
@@ -58,7 +58,7 @@ pub record TillBalances (cs : List Command) : Type 0 where
       → (answer_after before (ball b)).number ≡ 20
       → PlaysExactly (run before).log (map (λ t. t.number) (running_in (run before).house))
       × PlaysExactly (run before).log (map (λ l. l.number) (playing (sheet_of (run before).log)))
-  -- "Each ticket number has at most one accepted claim."
+  -- "Each ticket number has at most one accepted claim." With Collect in the list: "each number is paid by at most one claim or one collection".
   pub once : (n : ℕ) → payments n (run cs).log ≤ 1
   -- "That claim pays exactly the prizes, as cut, and the jackpot shares of the drawn games the ticket was sold for and had not cancelled."
   pub pays :
@@ -66,3 +66,9 @@ pub record TillBalances (cs : List Command) : Type 0 where
       → cs ≡ before ++ claim n ∷ after
       → (answer_after before (claim n)).code ≡ 0
       → (answer_after before (claim n)).cents ≡ won_by n (run before).log
+  -- And a collection pays "exactly what its games drawn by then won".
+  pub collects :
+      (before after : List Command) (n : ℕ)
+      → cs ≡ before ++ collect n ∷ after
+      → (answer_after before (collect n)).code ≡ 0
+      → (answer_after before (collect n)).cents ≡ won_by n (run before).log

@@ -1,10 +1,10 @@
 -- "A ticket is sold for its first game and those after it, as many as its Sell names. A game is drawn once its twentieth accepted ball is in."
 -- What the list of commands, and the code that each was answered with, tells of games, tickets and payments. It is told by the effects of the
 -- accepted commands: a ticket is issued for a span of games or has games taken off, the twentieth ball draws a game, the rule book says what the
--- game pays each ticket that runs in it, and a ticket is paid what it has won.
+-- game pays each ticket that runs in it, a ticket is paid what it has won, and a collected one's games left are reissued under the next number.
 use Rattle.std.specs.Prelude.{ℕ, ◌+◌, ◌-◌, min, ◌≡◌, Bool, false, cond, ◌&&◌, ◌||◌, List, [], ◌∷◌, map, eqb}
 use Rattle.sale.specs.Lists.{sum, keep, member}
-use Rattle.house.specs.Command.{Command, open', sell, cancel, ball, claim, expire, transfer}
+use Rattle.house.specs.Command.{Command, open', sell, cancel, ball, claim, expire, transfer, collect}
 use Rattle.house.specs.Draws.{Different}
 use Rattle.house.specs.Sheet.{Sheet, Line, fresh_sheet, feed, playing, sheet_settlement, games_from}
 
@@ -34,6 +34,8 @@ pub data Effect : Type 0 where
   draws : ℕ → Effect
   -- all that a number has won
   pays : ℕ → Effect
+  -- the same, and the games of that number that are not yet drawn go to a ticket under the next number
+  reissues : ℕ → Effect
 
 unfoldable pub effect_of : Command → Effect
 effect_of (open' d) = nothing
@@ -43,6 +45,7 @@ effect_of (ball b) = draws b
 effect_of (claim n) = pays n
 effect_of expire = nothing
 effect_of (transfer j cents) = nothing
+effect_of (collect n) = reissues n
 
 -- a refused command does nothing
 unfoldable pub effect_in : Logged → Effect
@@ -70,6 +73,7 @@ progress_after p (draws b) =
     (record { game = p.game + 1; balls = 0; issued = p.issued })
     (record { game = p.game; balls = p.balls + 1; issued = p.issued })
 progress_after p (pays k) = p
+progress_after p (reissues k) = record { game = p.game; balls = p.balls; issued = p.issued + 1 }
 
 unfoldable pub progress_of : Log → Progress
 progress_of [] = record { game = 1; balls = 0; issued = 0 }
@@ -92,6 +96,7 @@ drawn_after g log before (issues games) = before
 drawn_after g log before (takes_off k) = before
 drawn_after g log before (draws b) = drawn_next log g || before
 drawn_after g log before (pays k) = before
+drawn_after g log before (reissues k) = before
 
 unfoldable pub drawn : Log → ℕ → Bool
 drawn [] g = false
@@ -99,7 +104,7 @@ drawn (e ∷ log) g = drawn_after g log (drawn log g) (effect_in e)
 
 -- ---- a ticket's games
 
--- the games that a ticket was sold for and had not cancelled: from the first up to the stop, none before its sale
+-- the games that a ticket was issued for and that were neither cancelled nor reissued: from the first up to the stop, none before it was issued
 pub record Span : Type 0 where
   pub first : ℕ
   pub stop : ℕ
@@ -108,17 +113,23 @@ pub record Span : Type 0 where
 abbrev pub games_of : Span → List ℕ
 games_of s = games_from s.first (s.stop - s.first)
 
-unfoldable pub span_after : ℕ → Log → Span → Effect → Span
-span_after n log s nothing = s
-span_after n log s (issues games) =
-    cond (eqb ((progress_of log).issued + 1) n) (record { first = next_of log; stop = next_of log + games }) s
-span_after n log s (takes_off k) = cond (eqb k n) (record { first = s.first; stop = min s.stop (next_of log) }) s
-span_after n log s (draws b) = s
-span_after n log s (pays k) = s
+-- from the spans of all numbers before
+unfoldable pub span_after : ℕ → Log → (ℕ → Span) → Effect → Span
+span_after n log spans nothing = spans n
+span_after n log spans (issues games) =
+    cond (eqb ((progress_of log).issued + 1) n) (record { first = next_of log; stop = next_of log + games }) (spans n)
+span_after n log spans (takes_off k) = cond (eqb k n) (record { first = (spans n).first; stop = min (spans n).stop (next_of log) }) (spans n)
+span_after n log spans (draws b) = spans n
+span_after n log spans (pays k) = spans n
+-- the next number has the games from the current one on, being drawn or not, and the old one those before
+span_after n log spans (reissues k) =
+    cond (eqb ((progress_of log).issued + 1) n)
+    (record { first = game_of log; stop = (spans k).stop })
+    (cond (eqb k n) (record { first = (spans n).first; stop = min (spans n).stop (game_of log) }) (spans n))
 
 unfoldable pub span_of : ℕ → Log → Span
 span_of n [] = record { first = 0; stop = 0 }
-span_of n (e ∷ log) = span_after n log (span_of n log) (effect_in e)
+span_of n (e ∷ log) = span_after n log (λ k. span_of k log) (effect_in e)
 
 -- who plays in the current game: a number plays just where its span has the game, and no number plays twice
 pub record PlaysExactly (log : Log) (players : List ℕ) : Type 0 where
@@ -141,12 +152,13 @@ award_after n g log before (takes_off k) = before
 award_after n g log before (draws b) =
     cond (drawn_next log g) (award_at n (playing (sheet_of log)) (sheet_settlement b (sheet_of log)).awards) before
 award_after n g log before (pays k) = before
+award_after n g log before (reissues k) = before
 
 unfoldable pub award_in : ℕ → ℕ → Log → ℕ
 award_in n g [] = 0
 award_in n g (e ∷ log) = award_after n g log (award_in n g log) (effect_in e)
 
--- everything that a ticket's drawn games won, of those that it was sold for and had not cancelled
+-- everything that a number's drawn games won, of those that it was issued for and that were neither cancelled nor reissued
 unfoldable pub won_by : ℕ → Log → ℕ
 won_by n log = sum (map (λ g. award_in n g log) (keep (drawn log) (games_of (span_of n log))))
 
@@ -157,6 +169,7 @@ payments_after n before (issues games) = before
 payments_after n before (takes_off k) = before
 payments_after n before (draws b) = before
 payments_after n before (pays k) = cond (eqb k n) (before + 1) before
+payments_after n before (reissues k) = cond (eqb k n) (before + 1) before
 
 unfoldable pub payments : ℕ → Log → ℕ
 payments n [] = 0

@@ -1,4 +1,4 @@
--- The eight commands: "Checked in this order [..] Top to bottom; the first met is given, and only then. A refusal answers its number, 0, 0 and
+-- The nine commands: "Checked in this order [..] Top to bottom; the first met is given, and only then. A refusal answers its number, 0, 0 and
 -- changes no house". Each command has its rows of the refusal table, what it does and what it answers; `step` puts them together.
 use Rattle.std.specs.Prelude.{ℕ, ◌+◌, min, max, Bool, cond, not, ◌&&◌, ◌||◌, List, [], ◌∷◌, ◌++◌, map, ltb, leb, eqb, length}
 use Rattle.sale.specs.Lists.{sum, keep, any, member}
@@ -13,8 +13,8 @@ use Rattle.std.specs.Prelude.{None}
 use Rattle.calendar.specs.Calendar.{has_expired}
 use Rattle.prizes.specs.declared.jackpot.Jackpot.{Jackpot}
 pub use Rattle.house.specs.declared.answer.Answer.{Answer}
-pub use Rattle.house.specs.Command.{Command, open', sell, cancel, ball, claim, expire, transfer, Reply, replies}
-use Rattle.house.specs.Tickets.{Ticket, terms_of, runs_in, is_finished, is_live, paid_stakes, entry_of, keno_to_go_begun, with_due, with_stop, with_finished_day}
+pub use Rattle.house.specs.Command.{Command, open', sell, cancel, ball, claim, expire, transfer, collect, Reply, replies}
+use Rattle.house.specs.Tickets.{Ticket, terms_of, runs_in, is_finished, is_live, paid_stakes, entry_of, keno_to_go_begun, with_number, with_due, with_stop, with_finished_day}
 use Rattle.house.specs.Model.{Model, Counters, ticket_limit, game_limit, live_limit, is_drawing, next_game, with_tickets, with_money, with_taken, with_seeds, with_paid, with_refunded, with_unclaimed, with_transferred, with_gained, with_lost}
 
 -- ---- tickets by number
@@ -48,7 +48,7 @@ finished_on day game t = cond (is_finished game t && eqb t.finished_day 0) (with
 abbrev pub day_row : Model → Bool × ℕ
 day_row m = (eqb m.day 0, 4)
 
--- Cancel and Claim begin with the ticket's number
+-- Cancel, Claim and Collect begin with the ticket's number
 abbrev pub lookup_rows : ℕ → Model → List (Bool × ℕ)
 lookup_rows n m = day_row m ∷ (eqb n 0 || ltb m.issued n, 18) ∷ (not (has_ticket n m.live), 19) ∷ []
 
@@ -88,6 +88,12 @@ rows_of m (transfer j cents) =
     ∷ (is_drawing m, 6)
     ∷ (eqb cents 0 || ltb m.counters.unclaimed cents, 29)
     ∷ []
+rows_of m (collect n) =
+    lookup_rows n m
+    ++ ((is_finished m.game (ticket_at n m.live), 33)
+    ∷ (eqb (ticket_at n m.live).due 0, 34)
+    ∷ (leb ticket_limit m.issued, 35)
+    ∷ [])
 
 unfoldable pub code_of : Model → Command → ℕ
 code_of m c = first_met (rows_of m c)
@@ -239,6 +245,29 @@ transferred j cents m =
     (cond (eqb j 6) m.eight (with_primary m.eight (m.eight.primary + cents)))
     (with_transferred cents m.counters)
 
+-- Collect: "pays what is due, closes that number and reissues the games left, paid and free ones as before, under the next ticket number with the old sale
+-- day". The old number's games end at the current one, and with nothing due it closes;
+abbrev pub collected_ticket : Model → Ticket → Ticket
+collected_ticket m t = finished_on m.day m.game (with_stop (with_due t 0) m.game)
+
+-- the new one is the same ticket with nothing due. It is begun, so that of its games those from the current one on are left, being drawn or not.
+abbrev pub reissued_ticket : Model → Ticket → Ticket
+reissued_ticket m t = with_number (with_due t 0) (m.issued + 1)
+
+unfoldable pub collected : ℕ → Model → Model
+collected n m =
+    let t = ticket_at n m.live in
+    record {
+      day = m.day;
+      game = m.game;
+      balls = m.balls;
+      issued = m.issued + 1;
+      live = still_live m.game (changed n (collected_ticket m) m.live) ++ (reissued_ticket m t ∷ []);
+      six = m.six;
+      eight = m.eight;
+      counters = with_paid t.due m.counters;
+    }
+
 -- ---- each command: what it does, and the number and cents of its answer
 
 unfoldable pub act : Model → Command → Model
@@ -249,6 +278,7 @@ act m (ball b) = cond (settles b m) (game_settled b m) (ball_entered b m)
 act m (claim n) = claimed n m
 act m expire = expired m
 act m (transfer j cents) = transferred j cents m
+act m (collect n) = collected n m
 
 unfoldable pub reply : Model → Command → Reply
 reply m (open' d) = replies d 0
@@ -259,6 +289,7 @@ reply m (ball b) =
 reply m (claim n) = replies n (ticket_at n m.live).due
 reply m expire = replies (length (expiring m)) (sum (map (λ t. t.due) (expiring m)))
 reply m (transfer j cents) = replies j ((jackpot_for j m).primary + cents)
+reply m (collect n) = replies (m.issued + 1) (ticket_at n m.live).due
 
 -- ---- one command
 

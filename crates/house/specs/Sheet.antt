@@ -1,6 +1,7 @@
 -- "The count sheet is fed each command with its operands and its answer's code, and nothing else from the house. It holds today, the game, its
 -- balls, the six pools, the two debts, the nine figures, and a line for each accepted Sell, numbered from 1. It starts as a fresh house does,
--- with seeds and pooled 1,350,000 and the other figures 0. On a code other than 0 nothing on it changes." With the house it shares the rule book
+-- with seeds and pooled 1,350,000 and the other figures 0. On a code other than 0 nothing on it changes." And each number that Collect issues "gets a line, with the
+-- games it was issued for". With the house it shares the rule book
 -- (`sale`, `prizes` and `calendar`, with a sale's operands and the record of a jackpot's pools), the commands as they are given and the form of a reply (Command), and
 -- the names of the nine figures (Figures), and no ticket, check or money move.
 use Rattle.std.specs.Prelude.{ℕ, zero, suc, ◌+◌, ◌-◌, Bool, cond, not, ◌&&◌, List, [], ◌∷◌, ◌++◌, map, ltb, eqb, length}
@@ -13,7 +14,7 @@ use Rattle.prizes.specs.Jackpots.{guarantee_of_six, guarantee_of_eight, fresh_se
 use Rattle.prizes.specs.Settle.{Entry, Settled, settle}
 use Rattle.calendar.specs.Calendar.{has_expired}
 use Rattle.prizes.specs.declared.jackpot.Jackpot.{Jackpot}
-use Rattle.house.specs.Command.{Command, open', sell, cancel, ball, claim, expire, transfer, Reply, replies}
+use Rattle.house.specs.Command.{Command, open', sell, cancel, ball, claim, expire, transfer, collect, Reply, replies}
 use Rattle.house.specs.Figures.{Figures}
 
 pub record Line : Type 0 where
@@ -253,6 +254,19 @@ sheet_transfer j cents s =
     (cond (eqb j 8) (primary_with cents s.eight) s.eight)
     (sheet_with s.lines (moves unclaimed pooled cents s.figures) s)
 
+-- Collect "pays what is due [..] and reissues the games left [..] under the next ticket number": the due goes from owed to paid, and the games left to a
+-- line more, with the operands and the first game of the old one, so that the same games are free.
+abbrev pub reissued_line : Sheet → Line → Line
+reissued_line s l =
+    record { number = length s.lines + 1; operands = l.operands; first = l.first; left = l.left; due = 0; finishing_day = 0 }
+
+unfoldable pub sheet_collect : ℕ → Sheet → Sheet
+sheet_collect n s =
+    sheet_with
+    (on_line n (λ l. left_with s.today [] (due_with 0 l)) s.lines ++ map (reissued_line s) (keep (λ l. eqb l.number n) s.lines))
+    (moves owed paid (total_at n (λ l. l.due) s.lines) s.figures)
+    s
+
 -- ---- a command and its code
 
 unfoldable pub moved : Command → Sheet → Sheet
@@ -263,6 +277,7 @@ moved (ball b) s = sheet_ball b s
 moved (claim n) s = sheet_claim n s
 moved expire s = sheet_expire s
 moved (transfer j cents) s = sheet_transfer j cents s
+moved (collect n) s = sheet_collect n s
 
 unfoldable pub feed : Sheet → Command → ℕ → Sheet
 feed s c code = cond (eqb code 0) (moved c s) s
@@ -277,3 +292,4 @@ sheet_reply s (ball b) =
 sheet_reply s (claim n) = replies n (total_at n (λ l. l.due) s.lines)
 sheet_reply s expire = replies (length (late_dues s)) (sum (late_dues s))
 sheet_reply s (transfer j cents) = replies j (cond (eqb j 6) s.six.primary s.eight.primary + cents)
+sheet_reply s (collect n) = replies (length s.lines + 1) (total_at n (λ l. l.due) s.lines)

@@ -68,6 +68,10 @@ unfoldable pub keno_to_go_begun : ℕ → Bool → Ticket → Bool
 keno_to_go_begun game drawing t = leb 50 t.operands.games && (ltb t.first game || (eqb t.first game && drawing))
 
 module _ (t : Ticket) where
+  abbrev pub with_number : ℕ → Ticket
+  with_number n =
+      record { number = n; operands = t.operands; ways = t.ways; jackpot = t.jackpot; sizes = t.sizes; sold_day = t.sold_day; first = t.first; stop = t.stop; free = t.free; due = t.due; finished_day = t.finished_day }
+
   abbrev pub with_due : ℕ → Ticket
   with_due cents =
       record { number = t.number; operands = t.operands; ways = t.ways; jackpot = t.jackpot; sizes = t.sizes; sold_day = t.sold_day; first = t.first; stop = t.stop; free = t.free; due = cents; finished_day = t.finished_day }

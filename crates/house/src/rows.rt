@@ -100,6 +100,18 @@ pub(crate) fn write_row(rows: &mut [u64; 3200], i: usize, row: Row)
     }
 }
 
+// A copy of the marks of the ticket at a place.
+#[tactic(auto, unfolding(crate::specs::View::marks_at))]
+pub fn read_marks(marks: &[u8; 16000], i: usize) -> [u8; 80]
+    requires { IsRow i }
+    ensures { result ≡ marks_at marks.now i }
+{
+    let at = i * 80;
+    let mut copy = [0u8; 80];
+    copy.copy_from_slice(&marks[at..at + 80]);
+    copy
+}
+
 // A ticket's marks, written from the 80 of a sale. By their first place, and not through `as_chunks_mut`, after which nothing is known of the slice.
 #[tactic(auto, unfolding(crate::specs::View::put_marks))]
 pub(crate) fn write_marks(marks: &mut [u8; 16000], i: usize, from: &[u8])

@@ -2,7 +2,7 @@
 use mathlib.Core.Path.{◌≡◌}
 use Rattle.refusals.specs.Refusal.{refusal_number}
 use Rattle.refusals.specs.declared.refusal.Refusal.{Refusal}
-use Rattle.refusals.specs.declared.refusal.Refusal.TheVariants.{NotOpen, DayNotLater, Drawing, UnknownKind, GamesOutOfRange, GroupsOutOfRange, UnfitMarks, UnfitTypes, UnfitWaySize, SingleSpecialOne, UnfitStake, ChargeOverLimit, LiveLimit, SaleLimit, NeverIssued, TicketClosed, SoldEarlier, KenoToGoBegun, NoGameToTakeOff, NotFinished, NothingDue, BallOutOfRange, GameLimit, BallAlreadyIn, UnknownJackpot, UnfitCents, BufferTooShort, UnfitFeature, UnfitFeatureStake}
+use Rattle.refusals.specs.declared.refusal.Refusal.TheVariants.{NotOpen, DayNotLater, Drawing, UnknownKind, GamesOutOfRange, GroupsOutOfRange, UnfitMarks, UnfitTypes, UnfitWaySize, SingleSpecialOne, UnfitStake, ChargeOverLimit, LiveLimit, SaleLimit, NeverIssued, TicketClosed, SoldEarlier, KenoToGoBegun, NoGameToTakeOff, NotFinished, NothingDue, BallOutOfRange, GameLimit, BallAlreadyIn, UnknownJackpot, UnfitCents, BufferTooShort, UnfitFeature, UnfitFeatureStake, Finished, NothingDueYet, TicketLimit}
 
 pub refusal_some : (refusal : Refusal) → refusal_number refusal ≡ 0 → ⊥
 refusal_some NotOpen e = cc
@@ -34,3 +34,6 @@ refusal_some UnfitCents e = cc
 refusal_some BufferTooShort e = cc
 refusal_some UnfitFeature e = cc
 refusal_some UnfitFeatureStake e = cc
+refusal_some Finished e = cc
+refusal_some NothingDueYet e = cc
+refusal_some TicketLimit e = cc

@@ -1,7 +1,7 @@
 -- "Refused by number": the number of each refusal, from the table of where each thing is checked.
 use Rattle.std.specs.Prelude.{ℕ, Result, Ok, Err}
 use Rattle.refusals.specs.declared.refusal.Refusal.{Refusal}
-use Rattle.refusals.specs.declared.refusal.Refusal.TheVariants.{NotOpen, DayNotLater, Drawing, UnknownKind, GamesOutOfRange, GroupsOutOfRange, UnfitMarks, UnfitTypes, UnfitWaySize, SingleSpecialOne, UnfitStake, ChargeOverLimit, LiveLimit, SaleLimit, NeverIssued, TicketClosed, SoldEarlier, KenoToGoBegun, NoGameToTakeOff, NotFinished, NothingDue, BallOutOfRange, GameLimit, BallAlreadyIn, UnknownJackpot, UnfitCents, BufferTooShort, UnfitFeature, UnfitFeatureStake}
+use Rattle.refusals.specs.declared.refusal.Refusal.TheVariants.{NotOpen, DayNotLater, Drawing, UnknownKind, GamesOutOfRange, GroupsOutOfRange, UnfitMarks, UnfitTypes, UnfitWaySize, SingleSpecialOne, UnfitStake, ChargeOverLimit, LiveLimit, SaleLimit, NeverIssued, TicketClosed, SoldEarlier, KenoToGoBegun, NoGameToTakeOff, NotFinished, NothingDue, BallOutOfRange, GameLimit, BallAlreadyIn, UnknownJackpot, UnfitCents, BufferTooShort, UnfitFeature, UnfitFeatureStake, Finished, NothingDueYet, TicketLimit}
 
 abbrev pub refusal_number : Refusal → ℕ
 refusal_number NotOpen = 4
@@ -33,6 +33,9 @@ refusal_number UnfitCents = 29
 refusal_number BufferTooShort = 30
 refusal_number UnfitFeature = 31
 refusal_number UnfitFeatureStake = 32
+refusal_number Finished = 33
+refusal_number NothingDueYet = 34
+refusal_number TicketLimit = 35
 
 -- the number that tells how something ended: 0 where it was accepted, and else the refusal's
 abbrev pub code_in : {A : Type 0} → Result A Refusal → ℕ

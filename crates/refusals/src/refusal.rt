@@ -33,9 +33,9 @@ pub enum Refusal {
     LiveLimit = 16,
     // Sell: 9,999,999 tickets are issued, or the last game would be past 9,999,999.
     SaleLimit = 17,
-    // Cancel, Claim: ticket 0, or one that was never issued.
+    // Cancel, Claim, Collect: ticket 0, or one that was never issued.
     NeverIssued = 18,
-    // Cancel, Claim: the ticket is closed.
+    // Cancel, Claim, Collect: the ticket is closed.
     TicketClosed = 19,
     // Cancel: the ticket was sold on an earlier day.
     SoldEarlier = 20,
@@ -63,6 +63,12 @@ pub enum Refusal {
     UnfitFeature = 31,
     // Lucky Last: the feature stake is 0 or no multiple of 100.
     UnfitFeatureStake = 32,
+    // Collect: the ticket is finished.
+    Finished = 33,
+    // Collect: nothing is due.
+    NothingDueYet = 34,
+    // Collect: 9,999,999 tickets are issued.
+    TicketLimit = 35,
 }
 
 impl From<Refusal> for u8 {

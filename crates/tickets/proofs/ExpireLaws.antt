@@ -20,7 +20,7 @@ use Rattle.house.specs.View.{tickets_of, view, DayTells}
 use Rattle.tickets.specs.Steps.{Swept}
 use Rattle.house.specs.declared.state.House.{House}
 use Rattle.house.proofs.Ledger.{All, Kept, with_live}
-use Rattle.house.proofs.ListLaws.{keep_append, keep_snoc}
+use Rattle.house.proofs.ListLaws.{keep_append, keep_snoc, keep_changed}
 use Rattle.house.proofs.Refusals.{and_true}
 use Rattle.house.proofs.LiveTickets.{not_live}
 use Rattle.house.proofs.MoneyLaws.{sum_snoc}
@@ -173,21 +173,8 @@ module _ (m : Model) where
       (ts : List Ticket)
       → All (λ t. is_live m.game t ≡ true) ts
       → still_live m.game (map (λ t. cond (is_expired m t) (with_due t 0) t) ts) ≡ keep (λ t. not (is_expired m t)) ts
-  unfolding still_live keep
-  live_expired [] all = refl
-  live_expired (t ∷ ts) (alive, all) = go (is_expired m t) refl (live_expired ts all)
-    where
-      staying : List Ticket → List Ticket
-      staying us = keep (is_live m.game) (map (λ t. cond (is_expired m t) (with_due t 0) t) us)
-
-      go :
-          (b : Bool)
-          → is_expired m t ≡ b
-          → staying ts ≡ keep (λ t. not (is_expired m t)) ts
-          → cond (is_live m.game (cond b (with_due t 0) t)) (cond b (with_due t 0) t ∷ staying ts) (staying ts)
-          ≡ cond (not b) (t ∷ keep (λ t. not (is_expired m t)) ts) (keep (λ t. not (is_expired m t)) ts)
-      go true e rest = rw (expired_closes t e) rest
-      go false e rest = rw alive (ap (λ us. t ∷ us) rest)
+  unfolding still_live
+  live_expired = keep_changed (is_live m.game) (is_expired m) (λ t. with_due t 0) expired_closes
 
   -- what they are due was owed
   pub dues_within : sum (map (λ t. t.due) (expiring m)) ≤ sum (map (λ t. t.due) m.live)

@@ -1,6 +1,6 @@
--- The ticket that Cancel and Claim find: what the table's first rows say of its number, its place among the live ones and its row, what the rest
+-- The ticket that Cancel, Claim and Collect find: what the table's first rows say of its number, its place among the live ones and its row, what the rest
 -- of the command's table then says, and the live tickets once it is changed or closed.
-use Prim.Native.Nat.{ℕ, ◌≤◌, ◌<◌}
+use Prim.Native.Nat.{ℕ, ◌+◌, ◌^◌, ◌≤◌, ◌<◌}
 use native.Mathlib.Omega.{arith}
 use mathlib.Core.Path.{◌≡◌, refl, sym, ap, ◌∙◌, ap₂, subst, subst⁻¹}
 use mathlib.Core.Bool.{Bool, true, false, cond, not, ◌||◌}
@@ -15,6 +15,7 @@ use Rattle.sale.specs.Checks.{first_met}
 use Rattle.sale.proofs.CheckLaws.{stage_err, stage_ok}
 use Rattle.house.specs.Tickets.{Ticket, is_live}
 use Rattle.house.specs.Commands.{blank_ticket, ticket_at, has_ticket, changed, still_live, lookup_rows}
+use Rattle.house.specs.Till.{till_of}
 use Rattle.house.specs.View.{row_at, marks_at, ticket_from, ticket_in, tickets_of, place_of, RisingRows, without, view}
 use Rattle.house.specs.Parts.{ComesWith}
 use Rattle.tickets.specs.Steps.{replaced}
@@ -142,6 +143,14 @@ module _ {h : House} {words marks : List ℕ} {n : ℕ} {found : Found} (here : 
       subst P (sym (place_ticket n (view h words marks).live) ∙ found_ticket)
       (all_at P (view h words marks).live all (place_of n (view h words marks).live) blank_ticket among)
 
+  -- what is paid fits with what it is due
+  pub found_payable : h.counters.paid + (found_in found marks).due < 2 ^ 63
+  unfolding till_of view
+  found_payable =
+      let due : (found_in found marks).due < 2 ^ 62 = found_holds (λ t. t.due < 2 ^ 62) here.sure.dues in
+      let paid : h.counters.paid < 2 ^ 62 = here.sure.fit.figures.paid in
+      omega arith
+
   -- ---- the live tickets after a change to it
   module _ (f : Ticket → Ticket) where
     change_by :
@@ -171,3 +180,9 @@ module _ {h : House} {words marks : List ℕ} {n : ℕ} {found : Found} (here : 
         ∙ made
         ∙ ap (replaced h.game found.place (f (found_in found marks))) (sym (view_live h words marks found_few))
         ∙ sym (change_by (is_live h.game (f (found_in found marks))) refl)
+
+    -- or are left once it is closed
+    pub found_closes :
+        is_live h.game (f (found_in found marks)) ≡ false
+        → still_live h.game (changed n f (view h words marks).live) ≡ without found.place (take h.live (tickets_of words marks))
+    found_closes closes = change_by false closes ∙ ap (without found.place) (view_live h words marks found_few)

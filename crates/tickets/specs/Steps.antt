@@ -23,6 +23,10 @@ room_rows m games =
 abbrev pub claim_rows : ℕ → Ticket → List (Bool × ℕ)
 claim_rows game t = (not (is_finished game t), 23) ∷ (eqb t.due 0, 24) ∷ []
 
+-- Collect, where so many tickets are issued
+abbrev pub collect_rows : ℕ → ℕ → Ticket → List (Bool × ℕ)
+collect_rows game issued t = (is_finished game t, 33) ∷ (eqb t.due 0, 34) ∷ (leb ticket_limit issued, 35) ∷ []
+
 -- Cancel, where the games from the given stop on would be taken off
 abbrev pub cancel_rows : ℕ → ℕ → Bool → ℕ → Ticket → List (Bool × ℕ)
 cancel_rows day game drawing stop t =

@@ -1,4 +1,4 @@
-// A ticket by its number: what Cancel and Claim check first. Here and in the commands the house, the rows and the marks are parameters of their own: hosts lend
+// A ticket by its number: what Cancel, Claim and Collect check first. Here and in the commands the house, the rows and the marks are parameters of their own: hosts lend
 // the rows and the marks one by one, and a contract over a struct of `&mut` would have to say of each reference that it is still the one that was handed in.
 ghost use Rattle.std.specs.Prelude.{◌≡◌, List, ℕ, ◌<◌, IfOk};
 ghost use Rattle.refusals.specs.Refusal.{code_in};

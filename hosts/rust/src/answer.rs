@@ -56,6 +56,13 @@ pub enum Answer {
         /// What its primary pool is now.
         primary: u64,
     },
+    /// A ticket was paid part way, and its games left have a new number.
+    Collected {
+        /// The new number.
+        ticket: u32,
+        /// What is paid.
+        cents: u64,
+    },
 }
 
 impl fmt::Display for Answer {
@@ -85,6 +92,13 @@ impl fmt::Display for Answer {
             }
             Answer::Transferred { jackpot, primary } => {
                 write!(formatter, "the jackpot of {jackpot} stands at {}", dollars(primary))
+            }
+            Answer::Collected { ticket, cents } => {
+                write!(
+                    formatter,
+                    "{} is paid, the games left are ticket {ticket}'s",
+                    dollars(cents)
+                )
             }
         }
     }
@@ -135,6 +149,7 @@ impl Record {
             5 => Answer::Claimed { ticket: number, paid: cents },
             6 => Answer::Expired { tickets: number, cents },
             7 => Answer::Transferred { jackpot: number, primary: cents },
+            9 => Answer::Collected { ticket: number, cents },
             _ => return None,
         };
         Some(Ok(answer))

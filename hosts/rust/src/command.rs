@@ -13,6 +13,7 @@ const CLAIM: u8 = 5;
 const EXPIRE: u8 = 6;
 const TRANSFER: u8 = 7;
 const LUCKY_LAST: u8 = 8;
+const COLLECT: u8 = 9;
 
 /// A command with its operands, each as wide as on a roll. Nothing about them has
 /// been checked: the house refuses what is not in order.
@@ -48,6 +49,31 @@ pub enum Command {
         jackpot: u8,
         /// How much.
         cents: u32,
+    },
+    /// Pays what is due on a ticket that has games left, closes its number, and goes on
+    /// with the games left under the next number.
+    ///
+    /// ```
+    /// use wulipday::{Answer, Command, Kind, Lounge, Refusal, Sale};
+    ///
+    /// let mut lounge = Lounge::fresh();
+    /// lounge.give(&Command::Open { day: 1 })?;
+    /// // One number for twenty games at $1, which wins $3 in the first.
+    /// lounge.give(&Command::Sell(Sale::new(Kind::Standard, 20, 100).group(&[7])))?;
+    /// for number in 1..=20 {
+    ///     lounge.give(&Command::Ball { number })?;
+    /// }
+    /// let collected = lounge.give(&Command::Collect { ticket: 1 })?;
+    /// assert_eq!(collected, Answer::Collected { ticket: 2, cents: 300 });
+    /// // Nineteen games are left, and they are ticket 2's.
+    /// assert_eq!(lounge.live_tickets(), [2]);
+    /// assert_eq!(lounge.give(&Command::Collect { ticket: 1 }), Err(Refusal::Closed));
+    /// assert_eq!(lounge.give(&Command::Collect { ticket: 2 }), Err(Refusal::NothingDueYet));
+    /// # Ok::<(), Refusal>(())
+    /// ```
+    Collect {
+        /// The ticket's number.
+        ticket: u32,
     },
 }
 
@@ -197,6 +223,7 @@ impl Command {
             Command::Claim { .. } => CLAIM,
             Command::Expire => EXPIRE,
             Command::Transfer { .. } => TRANSFER,
+            Command::Collect { .. } => COLLECT,
         }
     }
 
@@ -207,7 +234,7 @@ impl Command {
             OPEN => Some(3),
             SELL => Some(9 + NUMBERS),
             LUCKY_LAST => Some(9 + NUMBERS + 4),
-            CANCEL | CLAIM => Some(5),
+            CANCEL | CLAIM | COLLECT => Some(5),
             BALL => Some(2),
             EXPIRE => Some(1),
             TRANSFER => Some(6),
@@ -227,7 +254,9 @@ impl Command {
                 bytes.extend(sale.marks);
                 bytes.extend(sale.feature_stake.into_iter().flat_map(u32::to_be_bytes));
             }
-            Command::Cancel { ticket } | Command::Claim { ticket } => {
+            Command::Cancel { ticket }
+            | Command::Claim { ticket }
+            | Command::Collect { ticket } => {
                 bytes.extend(ticket.to_be_bytes());
             }
             Command::Ball { number } => bytes.push(*number),
@@ -259,7 +288,10 @@ impl Command {
             BALL => Command::Ball { number: operands[0] },
             CLAIM => Command::Claim { ticket: four_bytes(operands) },
             EXPIRE => Command::Expire,
-            _ => Command::Transfer { jackpot: operands[0], cents: four_bytes(&operands[1..]) },
+            TRANSFER => {
+                Command::Transfer { jackpot: operands[0], cents: four_bytes(&operands[1..]) }
+            }
+            _ => Command::Collect { ticket: four_bytes(operands) },
         })
     }
 }
@@ -296,6 +328,7 @@ impl fmt::Display for Command {
             Command::Claim { ticket } => write!(formatter, "claim {ticket}"),
             Command::Expire => write!(formatter, "expire"),
             Command::Transfer { jackpot, cents } => write!(formatter, "transfer {jackpot} {cents}"),
+            Command::Collect { ticket } => write!(formatter, "collect {ticket}"),
         }
     }
 }
@@ -349,6 +382,7 @@ mod tests {
             Command::Expire,
             Command::Transfer { jackpot: 8, cents: u32::MAX },
             Command::Sell(sale.lucky_last(0xFEDC_BA98)),
+            Command::Collect { ticket: 0x0A0B_0C0D },
         ]
     }
 
@@ -361,7 +395,7 @@ mod tests {
             assert_eq!(Command::decode(&[bytes.clone(), vec![9]].concat()), Some(command));
             assert_eq!(Command::decode(&bytes[..bytes.len() - 1]), None);
         }
-        assert_eq!(Command::decode(&[9, 0, 0]), None);
+        assert_eq!(Command::decode(&[10, 0, 0, 0, 0]), None);
     }
 
     #[test]

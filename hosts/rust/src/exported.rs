@@ -80,11 +80,11 @@ pub struct Till {
     pub taken: u64,
     /// What the house has put into the jackpots.
     pub seeds: u64,
-    /// What claims have paid.
+    /// What claims and collections have paid.
     pub paid: u64,
     /// What cancels have paid back.
     pub refunded: u64,
-    /// Prizes and shares neither claimed nor expired.
+    /// Prizes and shares neither claimed, collected nor expired.
     pub owed: u64,
     /// Paid stakes of games neither drawn nor taken off.
     pub held: u64,

@@ -26,7 +26,7 @@ macro_rules! refusals {
 
         impl Refusal {
             /// All of them, by number.
-            pub const ALL: [Refusal; 29] = [$(Refusal::$name),*];
+            pub const ALL: [Refusal; 32] = [$(Refusal::$name),*];
 
             /// What it says, for people.
             pub fn sentence(self) -> &'static str {
@@ -68,6 +68,9 @@ refusals! {
     ShortBuffer = 30, "the buffer is too short for the live tickets";
     LuckyLast = 31, "a Lucky Last ticket is a standard one with one way";
     FeatureStake = 32, "the feature stake is 0 or not whole dollars";
+    Finished = 33, "the ticket has no games left to draw";
+    NothingDueYet = 34, "nothing is due on the ticket yet";
+    TicketsUsedUp = 35, "the ticket numbers are used up";
 }
 
 impl Refusal {
@@ -95,12 +98,12 @@ mod tests {
     use super::*;
 
     #[test]
-    fn every_number_from_4_to_32() {
+    fn every_number_from_4_to_35() {
         let numbers: Vec<u8> = Refusal::ALL.iter().map(|refusal| refusal.number()).collect();
-        assert_eq!(numbers, (4..=32).collect::<Vec<u8>>());
+        assert_eq!(numbers, (4..=35).collect::<Vec<u8>>());
         for number in 0..=255 {
             let found = Refusal::from_number(number).map(Refusal::number);
-            assert_eq!(found, (4..=32).contains(&number).then_some(number));
+            assert_eq!(found, (4..=35).contains(&number).then_some(number));
         }
     }
 }

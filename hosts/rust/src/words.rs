@@ -8,6 +8,7 @@
 //! claim TICKET
 //! expire
 //! transfer JACKPOT CENTS
+//! collect TICKET
 //! ```
 //!
 //! KIND is `standard`, `jackpot`, `special-one`, `special-two` or a number. With a
@@ -90,8 +91,9 @@ fn read_commands(line: &str) -> Result<Vec<Command>, String> {
         "claim" => vec![Command::Claim { ticket: words.number("the ticket")? }],
         "expire" => vec![Command::Expire],
         "transfer" => vec![read_transfer(&mut words)?],
+        "collect" => vec![Command::Collect { ticket: words.number("the ticket")? }],
         other => {
-            let expected = "open, sell, cancel, balls, claim, expire or transfer";
+            let expected = "open, sell, cancel, balls, claim, expire, transfer or collect";
             return Err(format!("there is no command \"{other}\": expected {expected}"));
         }
     };

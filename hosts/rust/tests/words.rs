@@ -54,6 +54,7 @@ fn every_command() {
         ("claim 4294967295#", vec![Command::Claim { ticket: u32::MAX }]),
         ("expire", vec![Command::Expire]),
         ("transfer 6 5000", vec![Command::Transfer { jackpot: 6, cents: 5_000 }]),
+        ("collect 3 # part way", vec![Command::Collect { ticket: 3 }]),
         ("", vec![]),
         ("# open 1", vec![]),
     ];
@@ -69,7 +70,7 @@ fn bad_lines_are_named() {
     let rows = [
         (
             "opn 1",
-            "there is no command \"opn\": expected open, sell, cancel, balls, claim, expire or transfer",
+            "there is no command \"opn\": expected open, sell, cancel, balls, claim, expire, transfer or collect",
         ),
         ("open", "a number is missing: the day"),
         ("open 65536", "the day must be a number from 0 to 65535, not \"65536\""),
@@ -106,6 +107,8 @@ fn bad_lines_are_named() {
             "\"1\" is one word too many",
         ),
         ("transfer 6", "a number is missing: the cents"),
+        ("collect", "a number is missing: the ticket"),
+        ("collect 1 2", "\"2\" is one word too many"),
     ];
     for (line, reason) in rows {
         let text = format!("open 1\n\n{line}\nopen 2\n");

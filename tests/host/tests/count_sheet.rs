@@ -1,6 +1,7 @@
 //! Demand 3 on the compiled core: after every command of every roll its till and
 //! its pools are those of the count sheet, which is fed the commands and their
-//! codes alone; accepted answers are the sheet's; no ticket is claimed twice.
+//! codes alone; accepted answers are the sheet's; no ticket number is paid twice, by a
+//! claim or by a collection.
 
 mod side_by_side;
 
@@ -8,21 +9,21 @@ use reference::command::length;
 use reference::roll::{read_answer, ANSWER_BYTES};
 use reference::till::balances;
 use reference::{Cents, Command, CountSheet};
-use rolls::{lucky_last, mixed, odd_cents, scenarios};
+use rolls::{collecting, lucky_last, mixed, odd_cents, scenarios};
 use side_by_side::{jackpot, reference_jackpot};
 use std::collections::HashSet;
 use wulipday::{Lounge, Stop};
 
-/// The core and the sheet, and the tickets claimed so far.
+/// The core and the sheet, and the tickets paid so far.
 struct Count {
     lounge: Lounge,
     sheet: CountSheet,
-    claimed: HashSet<u32>,
+    paid: HashSet<u32>,
 }
 
 impl Count {
     fn fresh() -> Count {
-        Count { lounge: Lounge::fresh(), sheet: CountSheet::fresh(), claimed: HashSet::new() }
+        Count { lounge: Lounge::fresh(), sheet: CountSheet::fresh(), paid: HashSet::new() }
     }
 
     fn give(&mut self, bytes: &[u8]) {
@@ -33,9 +34,13 @@ impl Count {
         let command = Command::decode(bytes);
         let counted = self.sheet.feed(&command, answer.code);
         assert_eq!((answer.number, Cents::from(answer.cents)), counted, "{command:?}");
-        if let (Command::Claim { ticket }, 0) = (&command, answer.code) {
-            assert!(self.claimed.insert(*ticket), "ticket {ticket} is claimed twice");
-        }
+        let pays = match &command {
+            Command::Claim { ticket } | Command::Collect { ticket } if answer.code == 0 => {
+                Some(*ticket)
+            }
+            _ => None,
+        };
+        assert!(pays.is_none_or(|ticket| self.paid.insert(ticket)), "{command:?} pays again");
         self.compare(&command);
     }
 
@@ -62,6 +67,10 @@ fn the_sheet_after_every_command() {
     rolls.extend(odd_cents::ways(1998));
     rolls.extend(odd_cents::apart(1998));
     rolls.extend(odd_cents::free_games(1998));
+    rolls.extend(collecting::moments(1998));
+    rolls.extend(collecting::in_a_row(1998));
+    rolls.extend(collecting::two_hundred(1998));
+    rolls.extend(collecting::jackpots(1998));
     for roll in rolls {
         let mut count = Count::fresh();
         let mut unread = &roll[..];

@@ -1,6 +1,7 @@
 //! Document 01's printed roll and settled examples on the proved core alone,
 //! with the document's own figures, the dates of a year by the calendar, the last
-//! ball of a ticket with a feature, and odd jackpot cents by stake.
+//! ball of a ticket with a feature, odd jackpot cents by stake, and a ticket that is
+//! collected part way.
 
 use reference::roll::{read_answer, ANSWER_BYTES};
 use reference::{Answer, Command, Sale};
@@ -48,6 +49,14 @@ impl Desk {
         self.draw_up_to(20)
     }
 
+    /// Balls 61 to 80 and others from there down, but not this number; answers the cents of
+    /// the last.
+    fn draw_without(&mut self, number: u8) -> u64 {
+        let balls = (1..=80).rev().filter(|&ball| ball != number).take(20);
+        let answers = balls.map(|number| self.give(Command::Ball { number }));
+        answers.last().expect("twenty balls").cents
+    }
+
     /// Balls 1 to 20, this one the last; answers its cents.
     fn draw_up_to(&mut self, last: u8) -> u64 {
         let balls = (1..=20).filter(|&number| number != last).chain([last]);
@@ -64,6 +73,10 @@ impl Desk {
         self.give(Command::Open { day });
         self.straight(0, stake, &[1]);
         assert_eq!(self.draw(), 3 * u64::from(stake));
+    }
+
+    fn collect(&mut self, ticket: u32) -> Answer {
+        self.give(Command::Collect { ticket })
     }
 
     fn expire_on(&mut self, day: u16) -> Answer {
@@ -315,4 +328,72 @@ fn refusals_of_a_feature() {
         assert_eq!(desk.give(command.clone()), Answer::refused(code), "{command:?}");
     }
     assert_eq!(desk.lucky_last(1, 999_800, 100, &[1]), 1);
+}
+
+/// "A guest with twenty games wins in the second and wants the money now." The figures
+/// that may not move do not; and the ticket is kept on, collected again and claimed.
+#[test]
+fn twenty_games_collected_after_the_second() {
+    let mut desk = Desk::on_day_one();
+    desk.give(Command::sell(0, 20, 100, &[&[1]], 1));
+    desk.draw_without(1);
+    assert_eq!(desk.collect(1), Answer::refused(34));
+    assert_eq!(desk.draw(), 300);
+    let before = desk.lounge.till();
+    assert_eq!(desk.collect(1), Answer::accepted(2, 300));
+    assert_eq!(desk.lounge.till(), Till { paid: 300, owed: 0, ..before });
+    assert_eq!(desk.collect(1), Answer::refused(19));
+    assert_eq!(desk.claim(1), Answer::refused(19));
+    assert_eq!(desk.collect(2), Answer::refused(34));
+    assert_eq!((3..=19).map(|_| desk.draw()).sum::<u64>(), 17 * 300);
+    // While the last game is drawn.
+    desk.give(Command::Ball { number: 1 });
+    assert_eq!(desk.collect(2), Answer::accepted(3, 17 * 300));
+    let rest = (2..=20).map(|number| desk.give(Command::Ball { number }));
+    assert_eq!(rest.last(), Some(Answer::accepted(20, 300)));
+    assert_eq!(desk.collect(3), Answer::refused(33));
+    assert_eq!(desk.claim(3), Answer::accepted(3, 300));
+    let till = desk.lounge.till();
+    assert_eq!((till.paid, till.owed, till.held, till.taken), (19 * 300, 0, 0, 2_000));
+}
+
+/// "A reissued Keno To Go ticket counts as begun"; one of fewer games is cancelled on its
+/// day of sale, and on no other.
+#[test]
+fn reissued_tickets_are_cancelled_or_not() {
+    let mut desk = Desk::on_day_one();
+    for games in [50, 49, 49] {
+        desk.give(Command::sell(0, games, 200, &[&[1]], 1));
+    }
+    assert_eq!(desk.draw(), 3 * 600);
+    for ticket in 1..=3 {
+        assert_eq!(desk.collect(ticket), Answer::accepted(ticket + 3, 600));
+    }
+    let cancel = |ticket| Command::Cancel { ticket };
+    assert_eq!(desk.give(cancel(4)), Answer::refused(21));
+    assert_eq!(desk.give(cancel(5)), Answer::accepted(5, 48 * 200));
+    desk.give(Command::Open { day: 2 });
+    assert_eq!(desk.give(cancel(4)), Answer::refused(20));
+    assert_eq!(desk.give(cancel(6)), Answer::refused(20));
+    assert_eq!(desk.draw(), 2 * 600);
+    assert_eq!(desk.collect(6), Answer::accepted(7, 600));
+    assert_eq!(desk.give(cancel(7)), Answer::refused(20));
+}
+
+/// The last game of 50 is free, whatever was collected before: nothing is held for it.
+#[test]
+fn free_games_are_as_before() {
+    let mut desk = Desk::on_day_one();
+    desk.give(Command::sell(1, 50, 100, &[&numbers(6, 0)], 1));
+    assert_eq!(desk.draw(), 100_015);
+    assert_eq!(desk.collect(1), Answer::accepted(2, 100_015));
+    assert_eq!(desk.lounge.till().held, 48 * 100);
+    for _game in 2..=49 {
+        desk.draw_without(1);
+    }
+    assert_eq!(desk.lounge.till().held, 0);
+    let primary = desk.lounge.pools().six.primary;
+    assert_eq!(primary, 100_000 + 48 * 15);
+    assert_eq!(desk.draw(), primary);
+    assert_eq!(desk.claim(2), Answer::accepted(2, primary));
 }

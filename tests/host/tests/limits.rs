@@ -3,10 +3,10 @@
 
 mod side_by_side;
 
-use reference::command::{BALL, LUCKY_LAST, SELL};
+use reference::command::{BALL, COLLECT, LUCKY_LAST, SELL};
 use reference::roll::ANSWER_BYTES;
 use reference::{Command, House};
-use rolls::{FarGames, RollWriter};
+use rolls::{far_tickets, FarGames, RollWriter};
 use side_by_side::Pair;
 use wulipday::{Lounge, Stop};
 
@@ -34,10 +34,11 @@ fn the_last_games() {
     assert_eq!(pair.counts.coverage.answers(BALL, 26), 2);
 }
 
-/// Ten million tickets, the last 200 of them live: 16 comes before 17.
+/// Ten million tickets, the last 200 of them live: 16 comes before 17. And the last two
+/// numbers issued by collections, after which comes 35.
 #[test]
 fn the_last_ticket() {
-    const CANCELLED: u32 = House::LAST_TICKET - 200;
+    const CANCELLED: u32 = far_tickets::CANCELLED;
     const ON_A_ROLL: u32 = 600;
     let sell = Command::sell(0, 1, House::SEASONED_CHARGE as u32, &[&[1]], 1).encode();
     let sold_and_cancelled = |ticket: u32| [sell.clone(), Command::Cancel { ticket }.encode()];
@@ -51,6 +52,12 @@ fn the_last_ticket() {
     }
 
     let house = House::seasoned(1, 0, CANCELLED);
+    let mut pair = Pair::of(lounge.clone(), house.clone());
+    assert_eq!(pair.read_by_command(&far_tickets::last_collections()), Ok(()));
+    let coverage = &pair.counts.coverage;
+    assert_eq!((coverage.answers(COLLECT, 0), coverage.answers(COLLECT, 35)), (2, 5));
+    assert_eq!(coverage.answers(LUCKY_LAST, 17), 2);
+
     let mut writer = RollWriter::on(house.clone());
     for ticket in 1..=202 {
         // The last number of all goes to a ticket with a feature.

@@ -60,6 +60,15 @@ impl Desk {
         self.give(Command::Claim { ticket });
     }
 
+    /// Ticket by ticket, and the numbers that are issued.
+    fn collect(&mut self, tickets: &[u32]) -> Vec<u32> {
+        let collect = |&ticket: &u32| match self.give(Command::Collect { ticket }) {
+            Answer::Collected { ticket, .. } => ticket,
+            other => panic!("{other:?} to a collection"),
+        };
+        tickets.iter().map(collect).collect()
+    }
+
     fn expire(&mut self) -> Answer {
         self.give(Command::Expire)
     }
@@ -172,6 +181,45 @@ fn cancelled_and_live() {
     desk.give(Command::Ball { number: 1 });
     desk.cancel(2);
     desk.lists(&[1, 2, 3]);
+}
+
+/// The new number stands last, whichever was collected; also while drawing.
+#[test]
+fn collected() {
+    let mut desk = Desk::on_day_one();
+    (1..=5).for_each(|number| assert_eq!(desk.sell_winner(3), number));
+    desk.draw();
+    assert_eq!(desk.collect(&[3, 1]), [6, 7]);
+    desk.lists(&[2, 4, 5, 6, 7]);
+    assert_eq!(desk.sell_winner(1), 8);
+    desk.give(Command::Ball { number: 1 });
+    assert_eq!(desk.collect(&[5]), [9]);
+    desk.lists(&[2, 4, 6, 7, 8, 9]);
+    for number in 2..=20 {
+        desk.give(Command::Ball { number });
+    }
+    assert_eq!(desk.collect(&[7, 2]), [10, 11]);
+    desk.lists(&[4, 6, 8, 9, 10, 11]);
+    desk.cancel(10);
+    desk.draw();
+    desk.claim(9);
+    desk.lists(&[4, 6, 8, 11]);
+}
+
+/// Each of 200, from the last to the first: the list is as long as before.
+#[test]
+fn two_hundred_collected() {
+    let mut desk = Desk::on_day_one();
+    (1..=200).for_each(|number| assert_eq!(desk.sell_winner(2), number));
+    desk.draw();
+    for half in [100, 0] {
+        let tickets: Vec<u32> = (half + 1..=half + 100).rev().collect();
+        desk.collect(&tickets);
+        let first_left = if half == 100 { 1 } else { 201 };
+        let left = first_left..=100;
+        let issued = 201..=if half == 100 { 300 } else { 400 };
+        desk.lists(&left.chain(issued).collect::<Vec<u32>>());
+    }
 }
 
 #[test]

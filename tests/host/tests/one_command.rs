@@ -44,14 +44,37 @@ fn a_whole_command_is_done_whatever_comes_behind() {
     claim_before(&[6], Stop::BookFull);
 }
 
+/// So is a collection, which answers the new number.
+#[test]
+fn a_collection_is_done_once() {
+    let mut lounge = Lounge::fresh();
+    let roll = wulipday::words::encode(
+        "open 1\nsell standard games 2 stake 100 groups 1 types 1\n\
+         balls 1 2 3 4 5 6 7 8 9 10 11 12 13 14 15 16 17 18 19 20\n",
+    );
+    lounge.roll(&roll.expect("commands"), &mut [0; 22 * ANSWER_BYTES]);
+    let mut answer = [BLANK; ANSWER_BYTES];
+    let bytes = [9, 0, 0, 0, 1, 9];
+    let report = lounge.command(&bytes, &mut answer);
+    assert_eq!(report, Report { stop: Stop::TooFewBytes, read: 5, answers: 1 });
+    assert_eq!(Record::read(&answer), Record { command: 9, code: 0, number: 2, cents: 300 });
+    assert_eq!((lounge.till().paid, lounge.till().owed, lounge.till().held), (300, 0, 100));
+    let before = lounge.clone();
+    let report = lounge.command(&bytes, &mut answer);
+    assert_eq!(report, Report { stop: Stop::TooFewBytes, read: 5, answers: 1 });
+    assert_eq!(answer[..2], [9, 19]);
+    assert!(lounge == before);
+}
+
 #[test]
 fn without_a_whole_command_nothing_is_done() {
     // 93 bytes would be a sale with a feature.
     for (bytes, stop) in [
         (&[][..], Stop::End),
         (&[0xFF], Stop::UnknownByte),
-        (&[9], Stop::UnknownByte),
+        (&[10], Stop::UnknownByte),
         (&[5, 0, 0, 0], Stop::TooFewBytes),
+        (&[9, 0, 0, 0], Stop::TooFewBytes),
         (&[8; 92], Stop::TooFewBytes),
     ] {
         let mut lounge = won();

@@ -12,6 +12,8 @@ pub const EXPIRE: u8 = 0x06;
 pub const TRANSFER: u8 = 0x07;
 /// A sale with the feature Lucky Last.
 pub const LUCKY_LAST: u8 = 0x08;
+/// What is due part way, and the games left under a new number.
+pub const COLLECT: u8 = 0x09;
 
 /// Bytes of a sale's operands, without a feature stake.
 const SALE_OPERANDS: usize = 1 + 1 + 4 + 1 + 1 + NUMBERS;
@@ -38,6 +40,9 @@ pub enum Command {
     Transfer {
         jackpot: u8,
         cents: u32,
+    },
+    Collect {
+        ticket: u32,
     },
 }
 
@@ -132,6 +137,7 @@ impl Command {
             Command::Claim { .. } => CLAIM,
             Command::Expire => EXPIRE,
             Command::Transfer { .. } => TRANSFER,
+            Command::Collect { .. } => COLLECT,
         }
     }
 
@@ -142,7 +148,9 @@ impl Command {
         match self {
             Command::Open { day } => bytes.extend(day.to_be_bytes()),
             Command::Sell(sale) => sale.encode(&mut bytes),
-            Command::Cancel { ticket } | Command::Claim { ticket } => {
+            Command::Cancel { ticket }
+            | Command::Claim { ticket }
+            | Command::Collect { ticket } => {
                 bytes.extend(ticket.to_be_bytes());
             }
             Command::Ball { number } => bytes.push(*number),
@@ -169,6 +177,7 @@ impl Command {
             TRANSFER => {
                 Command::Transfer { jackpot: operands[0], cents: four_bytes(&operands[1..]) }
             }
+            COLLECT => Command::Collect { ticket: four_bytes(operands) },
             unknown => panic!("no command has the byte {unknown}"),
         }
     }
@@ -181,7 +190,7 @@ pub fn length(byte: u8) -> Option<usize> {
         OPEN => Some(1 + 2),
         SELL => Some(1 + SALE_OPERANDS),
         LUCKY_LAST => Some(1 + SALE_OPERANDS + 4),
-        CANCEL | CLAIM => Some(1 + 4),
+        CANCEL | CLAIM | COLLECT => Some(1 + 4),
         BALL => Some(1 + 1),
         EXPIRE => Some(1),
         TRANSFER => Some(1 + 1 + 4),

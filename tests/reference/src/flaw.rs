@@ -39,11 +39,21 @@ pub enum Flaw {
     FeatureAmongMajors,
     /// A cancel gives back the stakes of the ways alone.
     FeatureStakeNotRefunded,
+    /// A collected number stays live, though its due is paid.
+    CollectedStaysLive,
+    /// What a collection pays is due on the new number again.
+    CollectedDueIsKept,
+    /// A reissued ticket counts as sold today.
+    ReissuedAsSoldToday,
+    /// How many games of a reissued ticket are free is counted from the games left.
+    ReissuedFreeGamesAnew,
+    /// The game being drawn does not go to the new number, nor stay with the old.
+    ReissuedWithoutGameBeingDrawn,
 }
 
 impl Flaw {
     /// The flaws proper, without [`Flaw::None`].
-    pub const ALL: [Flaw; 14] = [
+    pub const ALL: [Flaw; 19] = [
         Flaw::SettlesOneGameMore,
         Flaw::OneCutRound,
         Flaw::CappedJackpot,
@@ -58,5 +68,10 @@ impl Flaw {
         Flaw::NoFeatureInFreeGames,
         Flaw::FeatureAmongMajors,
         Flaw::FeatureStakeNotRefunded,
+        Flaw::CollectedStaysLive,
+        Flaw::CollectedDueIsKept,
+        Flaw::ReissuedAsSoldToday,
+        Flaw::ReissuedFreeGamesAnew,
+        Flaw::ReissuedWithoutGameBeingDrawn,
     ];
 }

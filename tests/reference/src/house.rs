@@ -25,7 +25,7 @@ pub struct House {
     pub(crate) today: u16,
     pub(crate) game: u32,
     pub(crate) balls: Vec<u8>,
-    /// Every ticket ever sold, but for those behind a seasoned house.
+    /// Every ticket ever issued, but for those behind a seasoned house.
     pub(crate) tickets: Vec<Ticket>,
     pub(crate) jackpots: Jackpots,
     /// Seeds the house has put in.
@@ -95,7 +95,7 @@ impl House {
         &self.balls
     }
 
-    /// Every ticket ever sold, in number order.
+    /// Every ticket ever issued, in number order.
     pub fn tickets(&self) -> &[Ticket] {
         &self.tickets
     }
@@ -133,6 +133,7 @@ impl House {
             Command::Claim { ticket } => self.claim(*ticket),
             Command::Expire => self.expire(),
             Command::Transfer { jackpot, cents } => self.transfer(*jackpot, *cents),
+            Command::Collect { ticket } => self.collect(*ticket),
         };
         match outcome {
             Ok((number, cents)) => {
@@ -239,6 +240,23 @@ impl House {
         Ok((u32::from(jackpot), pools.primary))
     }
 
+    /// One number closes as the next one is issued, so that 200 live tickets are none
+    /// too many.
+    fn collect(&mut self, number: u32) -> Outcome {
+        self.check_day()?;
+        let index = self.check_ticket(number)?;
+        let due = self.tickets[index].won();
+        met(self.tickets[index].is_finished(), refusal::FINISHED)?;
+        met(due == 0, refusal::NOTHING_DUE_YET)?;
+        met(self.issued() >= Self::LAST_TICKET, refusal::TICKETS_USED_UP)?;
+
+        let next = self.issued() + 1;
+        let being_drawn = self.game_being_drawn();
+        let reissued = self.tickets[index].collect(next, self.today, being_drawn, self.flaw);
+        self.tickets.push(reissued);
+        Ok((next, due))
+    }
+
     /// Writes the numbers of the live tickets in rising order, 4 bytes each,
     /// high byte first, and answers how many there are. The buffer beyond them is
     /// untouched. No command: it asks for no day.
@@ -283,8 +301,12 @@ impl House {
         self.is_drawing().then_some(self.game)
     }
 
-    /// Whether the first ball of the ticket's first game has been drawn.
+    /// Whether the first ball of the ticket's first game has been drawn; a reissued
+    /// ticket counts as begun, however few games are left.
     fn has_begun(&self, ticket: &Ticket) -> bool {
+        if !ticket.is_sold() {
+            return true;
+        }
         let first_game = ticket.first_game();
         first_game < self.game || first_game == self.game && self.is_drawing()
     }

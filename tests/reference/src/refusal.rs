@@ -36,3 +36,7 @@ pub const SHORT_BUFFER: u8 = 30;
 
 pub const FEATURE_TICKET: u8 = 31;
 pub const FEATURE_STAKE: u8 = 32;
+
+pub const FINISHED: u8 = 33;
+pub const NOTHING_DUE_YET: u8 = 34;
+pub const TICKETS_USED_UP: u8 = 35;

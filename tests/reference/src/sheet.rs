@@ -16,7 +16,8 @@ use crate::ticket::{Kind, Terms};
 use crate::ways::ways;
 use crate::Cents;
 
-/// A line for an accepted sale; its feature stake stands among the terms.
+/// A line for an accepted sale, or for a collection: it has the operands and the
+/// first game of the sale then. A feature stake stands among the terms.
 #[derive(Clone, Debug)]
 struct Line {
     terms: Terms,
@@ -106,6 +107,7 @@ impl CountSheet {
             Command::Claim { ticket } => self.claim(*ticket),
             Command::Expire => self.expire(),
             Command::Transfer { jackpot, cents } => self.transfer(*jackpot, Cents::from(*cents)),
+            Command::Collect { ticket } => self.collect(*ticket),
         }
     }
 
@@ -203,6 +205,20 @@ impl CountSheet {
         self.figures.owed -= due;
         self.figures.paid += due;
         (ticket, due)
+    }
+
+    /// The due moves from owed to paid, and the games left to a new line.
+    fn collect(&mut self, ticket: u32) -> (u32, Cents) {
+        let today = self.today;
+        let line = self.line(ticket);
+        let due = std::mem::take(&mut line.due);
+        let games_left = std::mem::take(&mut line.games_left);
+        line.games_went(today);
+        let (terms, first_game) = (line.terms.clone(), line.first_game);
+        self.lines.push(Line { terms, first_game, games_left, due: 0, finishing_day: None });
+        self.figures.owed -= due;
+        self.figures.paid += due;
+        (self.lines.len() as u32, due)
     }
 
     fn expire(&mut self) -> (u32, Cents) {

@@ -1,7 +1,8 @@
 //! "The house": what a ticket is sold for, and what has become of it since.
 //!
-//! A ticket keeps a line for each game it was sold for. Whatever is asked about
-//! its money is added up from these lines.
+//! A ticket keeps a line for each game it was sold for; a collection moves the lines
+//! of the games left to the new number. Whatever is asked about its money is added up
+//! from these lines.
 
 use crate::flaw::Flaw;
 use crate::price;
@@ -129,6 +130,7 @@ pub struct TicketGame {
 pub enum Closing {
     NothingDue,
     Claimed,
+    Collected,
     Expired,
 }
 
@@ -137,6 +139,8 @@ pub struct Ticket {
     pub number: u32,
     pub terms: Terms,
     pub sold_on: u16,
+    /// The number whose collection issued this one, if no sale did.
+    pub reissue_of: Option<u32>,
     pub games: Vec<TicketGame>,
     /// The finishing day, once no game is left to draw.
     pub finished_on: Option<u16>,
@@ -154,7 +158,13 @@ impl Ticket {
                 standing: Standing::Waiting,
             })
             .collect();
-        Ticket { number, terms, sold_on, games, finished_on: None, closing: None }
+        let (reissue_of, finished_on, closing) = (None, None, None);
+        Ticket { number, terms, sold_on, reissue_of, games, finished_on, closing }
+    }
+
+    /// Issued by a sale and not by a collection.
+    pub fn is_sold(&self) -> bool {
+        self.reissue_of.is_none()
     }
 
     pub fn is_live(&self) -> bool {
@@ -165,6 +175,7 @@ impl Ticket {
         self.games.iter().all(|game| game.standing != Standing::Waiting)
     }
 
+    /// Of this number: a reissued ticket begins with the games that were left.
     pub fn first_game(&self) -> u32 {
         self.games[0].number
     }
@@ -188,6 +199,54 @@ impl Ticket {
             }
         }
         self.refunded(flaw) - before
+    }
+
+    /// Closes the number as collected and answers the ticket that has the games left
+    /// under the new one: on the same terms, sold on the same day, each game paid for or
+    /// free as before.
+    pub fn collect(
+        &mut self,
+        number: u32,
+        today: u16,
+        being_drawn: Option<u32>,
+        flaw: Flaw,
+    ) -> Ticket {
+        let mut reissued = Ticket { number, reissue_of: Some(self.number), ..self.clone() };
+        reissued.games.retain(|game| game.standing == Standing::Waiting);
+        self.games.retain(|game| game.standing != Standing::Waiting);
+        self.finished_on = Some(today);
+        self.closing = Some(Closing::Collected);
+        self.go_wrong(&mut reissued, today, being_drawn, flaw);
+        reissued
+    }
+
+    /// What a flaw makes of a collection.
+    fn go_wrong(
+        &mut self,
+        reissued: &mut Ticket,
+        today: u16,
+        being_drawn: Option<u32>,
+        flaw: Flaw,
+    ) {
+        match flaw {
+            Flaw::CollectedStaysLive => self.closing = None,
+            Flaw::CollectedDueIsKept => {
+                let won = self.games.iter().filter(|game| game.standing != Standing::TakenOff);
+                let again = won.map(|game| TicketGame { paid: false, ..game.clone() });
+                reissued.games.splice(..0, again);
+            }
+            Flaw::ReissuedAsSoldToday => reissued.sold_on = today,
+            Flaw::ReissuedFreeGamesAnew => {
+                let paid_games = price::paid_games(reissued.games.len() as u32);
+                for (index, game) in (0..).zip(&mut reissued.games) {
+                    game.paid = index < paid_games;
+                }
+            }
+            Flaw::ReissuedWithoutGameBeingDrawn => {
+                reissued.games.retain(|game| Some(game.number) != being_drawn);
+            }
+            _ => {}
+        }
     }
 
     /// The line of a game that is waiting to be drawn.

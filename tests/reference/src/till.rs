@@ -23,7 +23,7 @@ impl House {
         [
             self.taken(),
             self.seeded,
-            self.won_by_tickets(Some(Closing::Claimed)),
+            self.paid(),
             self.refunded(),
             self.won_by_tickets(None),
             self.sum(Ticket::held),
@@ -34,7 +34,14 @@ impl House {
     }
 
     fn taken(&self) -> Cents {
-        self.sum(|ticket| ticket.terms.charge()) + self.charges_behind()
+        let charge = |ticket: &Ticket| if ticket.is_sold() { ticket.terms.charge() } else { 0 };
+        self.sum(charge) + self.charges_behind()
+    }
+
+    /// Claims and collections.
+    fn paid(&self) -> Cents {
+        let paid = [Closing::Claimed, Closing::Collected].map(Some);
+        paid.into_iter().map(|closing| self.won_by_tickets(closing)).sum()
     }
 
     fn refunded(&self) -> Cents {

@@ -36,6 +36,17 @@ fn must_find(flaw: Flaw) -> &'static [&'static str] {
         Flaw::FeatureStakeNotRefunded => {
             &["a cancel refunds the feature stake", "a cancel while drawing keeps one game's"]
         }
+        Flaw::CollectedStaysLive => &["a collected number is closed", "a guest collects part way"],
+        Flaw::CollectedDueIsKept => {
+            &["what was collected is not due again", "collections one after another"]
+        }
+        Flaw::ReissuedAsSoldToday => &["a reissued ticket keeps its day of sale"],
+        Flaw::ReissuedFreeGamesAnew => {
+            &["free games stay the last ones", "free games of a jackpot ticket give none"]
+        }
+        Flaw::ReissuedWithoutGameBeingDrawn => {
+            &["the game being drawn goes to the new number", "only the game being drawn is left"]
+        }
     }
 }
 

@@ -3,7 +3,7 @@
 //!
 //! The command that must be refused with a number breaks, as far as one
 //! command can, every later rule of its row as well. Sales with a feature stand in
-//! feature_refusals.rs.
+//! feature_refusals.rs, collections in collecting.rs.
 
 mod checks;
 
@@ -39,6 +39,7 @@ fn code_4_every_command_but_open() {
         Command::Claim { ticket: 0 },
         Command::Expire,
         Command::Transfer { jackpot: 0, cents: 0 },
+        Command::Collect { ticket: 0 },
     ];
     for command in commands {
         refused(&mut house, &command, 4);

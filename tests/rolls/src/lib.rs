@@ -12,16 +12,21 @@
 //! | The end of every February, as asked since    | [`scenarios`]  |
 //! | Lucky Last, as asked since                   | [`lucky_last`] |
 //! | Odd jackpot cents by stake, as asked since   | [`odd_cents`]  |
+//! | Collecting part way, as asked since          | [`collecting`] |
 //! | All of it at once, refusals included         | [`mixed`]      |
 //! | The roll, when it is damaged or cut off      | [`damaged`]    |
-//! | The limits of 9,999,999                      | [`far_games`]  |
+//! | The limits of 9,999,999                      | [`far_games`], [`far_tickets`] |
 //! | Every refusal and stop is met                | [`coverage`]   |
 //! | Every outcome of a feature is met            | [`features`]   |
 //! | Who shares a jackpot, and its odd cents      | [`sharing`]    |
+//! | Every outcome of a collection is met         | [`collections`] |
 
+pub mod collecting;
+pub mod collections;
 pub mod coverage;
 pub mod damaged;
 pub mod far_games;
+pub mod far_tickets;
 pub mod features;
 pub mod lucky_last;
 pub mod mixed;
@@ -33,6 +38,7 @@ pub mod sharing;
 pub mod sweeps;
 pub mod writer;
 
+pub use collections::Collections;
 pub use coverage::Coverage;
 pub use far_games::FarGames;
 pub use features::Features;
@@ -72,6 +78,10 @@ pub fn everything(seed: u64) -> Vec<NamedRoll> {
         ("odd cents of ways", odd_cents::ways(seed)),
         ("odd cents apart", odd_cents::apart(seed)),
         ("odd cents of free games", odd_cents::free_games(seed)),
+        ("collections", collecting::moments(seed)),
+        ("collections in a row", collecting::in_a_row(seed)),
+        ("collections of 200", collecting::two_hundred(seed)),
+        ("collections of jackpots", collecting::jackpots(seed)),
         ("mixed", mixed::mixed_set(seed, 60, 1_000)),
         ("overlong", mixed::overlong(seed)),
         ("damaged", damaged::damaged_set(seed, 120)),

@@ -98,10 +98,11 @@ impl Lounge {
             0..=29 => self.sell(),
             30..=38 => self.cancel(),
             39..=62 => self.balls(),
-            63..=82 => self.claim(),
-            83..=87 => self.open(),
-            88..=91 => self.expire(),
-            92..=96 => self.transfer(),
+            63..=78 => self.claim(),
+            79..=83 => self.collect(),
+            84..=88 => self.open(),
+            89..=92 => self.expire(),
+            93..=96 => self.transfer(),
             _ => self.anything(),
         }
     }
@@ -235,8 +236,19 @@ impl Lounge {
 
     fn cancel(&mut self) {
         let today = self.writer.house().today();
-        let number = self.pick_ticket(|ticket| !ticket.is_finished() && ticket.sold_on == today);
+        // A reissued ticket that was sold on an earlier day, now and then.
+        let reissued = self.random.percent(10);
+        let fits = |ticket: &Ticket| ticket.sold_on == today || reissued && !ticket.is_sold();
+        let number = self.pick_ticket(|ticket| !ticket.is_finished() && fits(ticket));
         self.writer.cancel(number);
+    }
+
+    /// Mostly what can be collected, and now and then what can only be claimed.
+    fn collect(&mut self) {
+        let finished = self.random.percent(10);
+        let number =
+            self.pick_ticket(|ticket| ticket.won() > 0 && ticket.is_finished() == finished);
+        self.writer.collect(number);
     }
 
     fn claim(&mut self) {
@@ -295,7 +307,7 @@ impl Lounge {
 
     /// A known command with whatever operands.
     fn anything(&mut self) {
-        let byte = self.random.between(1, 8) as u8;
+        let byte = self.random.between(1, 9) as u8;
         let length = reference::command::length(byte).expect("a known command");
         let mut bytes: Vec<u8> = (0..length).map(|_| self.random.byte()).collect();
         bytes[0] = byte;

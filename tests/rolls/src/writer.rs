@@ -125,6 +125,17 @@ impl RollWriter {
         self.give(&Command::Expire)
     }
 
+    pub fn collect(&mut self, ticket: u32) -> Answer {
+        self.give(&Command::Collect { ticket })
+    }
+
+    /// The live tickets that can collect: something is due, and games are left.
+    pub fn collectable(&self) -> Vec<u32> {
+        let live = self.house.live_tickets();
+        let can_collect = live.filter(|ticket| !ticket.is_finished() && ticket.won() > 0);
+        can_collect.map(|ticket| ticket.number).collect()
+    }
+
     pub fn transfer(&mut self, jackpot: u8, cents: u32) -> Answer {
         self.give(&Command::Transfer { jackpot, cents })
     }

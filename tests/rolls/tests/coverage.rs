@@ -1,10 +1,13 @@
 //! Every refusal and every stop is met by the rolls, in numbers that mean
 //! something.
 
-use reference::command::{BALL, CLAIM, LUCKY_LAST, SELL};
+use reference::command::{BALL, CLAIM, COLLECT, LUCKY_LAST, SELL};
 use reference::House;
 use rolls::coverage::FAR_CODES;
-use rolls::{damaged, everything, mixed, odd_cents, scenarios, Coverage, Features};
+use rolls::{
+    collecting, damaged, everything, far_tickets, mixed, odd_cents, scenarios, Collections,
+    Coverage, FarGames, Features,
+};
 
 const SEED: u64 = 1998;
 
@@ -37,6 +40,37 @@ fn mixed_rolls_alone() {
     assert!(coverage.answers(BALL, 0) > 10_000);
     assert!(coverage.answers(CLAIM, 0) > 500);
     assert!(coverage.answers(LUCKY_LAST, 0) > 500);
+    assert!(coverage.answers(COLLECT, 0) > 500);
+}
+
+/// With the far rolls every code from 4 to 35 is met, but for 24, which no ticket can be
+/// refused by, and 30, which is the live list's.
+#[test]
+fn every_code_from_4_to_35_with_the_far_rolls() {
+    let mut coverage = covered(everything(SEED).iter().map(|roll| &roll.bytes), 100);
+    let far = FarGames::new();
+    let mut house = House::seasoned(1, far.games_before_the_last_roll(), 0);
+    coverage.count_roll(&mut house, far.last_roll(), 100);
+    let mut house = House::seasoned(1, 0, far_tickets::CANCELLED);
+    coverage.count_roll(&mut house, &far_tickets::last_collections(), 100);
+    coverage.check(&[]).unwrap();
+    let is_met = |code: &u8| (1..=9).any(|command| coverage.answers(command, *code) > 0);
+    let met: Vec<u8> = (1..=255).filter(is_met).collect();
+    let codes = (4..=35).filter(|code| ![24, 30].contains(code));
+    assert_eq!(met, codes.collect::<Vec<u8>>());
+}
+
+/// Of collections and of the numbers they issue; and on the mixed rolls alone all but
+/// those that a scenario sets up.
+#[test]
+fn every_outcome_of_a_collection_is_met() {
+    let mut collections = Collections::default();
+    everything(SEED).iter().for_each(|roll| collections.count_roll(&roll.bytes));
+    assert_eq!(collections.missing(), [""; 0]);
+    let mut collections = Collections::default();
+    mixed::mixed_set(SEED, 60, 1_000).iter().for_each(|roll| collections.count_roll(roll));
+    let is_set_up = |outcome: &&str| *outcome == "with 200 live tickets";
+    assert!(collections.missing().iter().all(is_set_up), "{collections:?}");
 }
 
 /// Features are won and missed in paid and in free games, with cuts beside them
@@ -55,10 +89,14 @@ fn a_missing_code_is_named() {
     let found = covered([&roll], 100).check(&FAR_CODES).unwrap_err();
     assert!(found.contains("command 3 with code 20"));
     assert!(found.contains("command 8 with code 31"));
+    assert!(found.contains("command 9 with code 34"));
     assert!(found.contains("stop 3"));
     let mut features = Features::default();
     features.count_roll(&roll);
     assert_eq!(features.missing().len(), 8);
+    let mut collections = Collections::default();
+    collections.count_roll(&roll);
+    assert_eq!(collections.missing().len(), 21);
 }
 
 #[test]
@@ -67,5 +105,6 @@ fn the_same_seed_makes_the_same_rolls() {
     assert_eq!(damaged::damaged_set(SEED, 20), damaged::damaged_set(SEED, 20));
     assert_eq!(scenarios::crowded_cuts(SEED), scenarios::crowded_cuts(SEED));
     assert_eq!(odd_cents::winners(SEED), odd_cents::winners(SEED));
+    assert_eq!(collecting::in_a_row(SEED), collecting::in_a_row(SEED));
     assert_ne!(mixed::mixed(1, 100), mixed::mixed(2, 100));
 }

@@ -4,7 +4,7 @@
 
 use reference::ledger::{ledger, ledger_of};
 use reference::{Flaw, House};
-use rolls::{lucky_last, mixed, odd_cents, scenarios};
+use rolls::{collecting, lucky_last, mixed, odd_cents, scenarios};
 
 const SEED: u64 = 1998;
 
@@ -36,6 +36,14 @@ fn scenarios_find_their_flaws() {
         (Flaw::FeatureAmongMajors, lucky_last::beside_cuts(SEED)),
         (Flaw::FeatureStakeNotRefunded, lucky_last::operands()),
         (Flaw::FeatureStakeNotRefunded, scenarios::cancels(SEED)),
+        (Flaw::CollectedStaysLive, collecting::moments(SEED)),
+        (Flaw::CollectedStaysLive, collecting::two_hundred(SEED)),
+        (Flaw::CollectedDueIsKept, collecting::moments(SEED)),
+        (Flaw::CollectedDueIsKept, collecting::jackpots(SEED)),
+        (Flaw::ReissuedAsSoldToday, collecting::moments(SEED)),
+        (Flaw::ReissuedFreeGamesAnew, collecting::in_a_row(SEED)),
+        (Flaw::ReissuedWithoutGameBeingDrawn, collecting::moments(SEED)),
+        (Flaw::ReissuedWithoutGameBeingDrawn, collecting::two_hundred(SEED)),
     ];
     for (flaw, rolls) in sets {
         assert!(finds(flaw, &rolls), "{flaw:?}");

@@ -1,12 +1,12 @@
 //! Demand 3 on every roll: house and count sheet agree, the till balances,
-//! refused commands might as well not have been given, and no ticket is claimed
-//! twice.
+//! refused commands might as well not have been given, no ticket number is paid twice, by
+//! a claim or by a collection, and it is paid what its own games have won.
 
 use reference::command::length;
 use reference::till::balances;
 use reference::{Cents, Command, CountSheet, House};
 use rolls::{everything, NamedRoll};
-use std::collections::HashSet;
+use std::collections::HashMap;
 
 const SEED: u64 = 1998;
 
@@ -25,7 +25,7 @@ fn check(roll: &NamedRoll) {
     let mut house = House::fresh();
     let mut only_accepted = House::fresh();
     let mut sheet = CountSheet::fresh();
-    let mut claimed = HashSet::new();
+    let mut paid = HashMap::new();
     for (place, command) in commands(&roll.bytes).iter().enumerate() {
         let at = || format!("{}, command {place}: {command:?}", roll.name);
         let answer = house.command(command);
@@ -35,8 +35,9 @@ fn check(roll: &NamedRoll) {
             continue;
         }
         assert_eq!(only_accepted.command(command), answer, "{}", at());
-        if let Command::Claim { ticket } = command {
-            assert!(claimed.insert(*ticket), "{}: claimed twice", at());
+        if let Command::Claim { ticket } | Command::Collect { ticket } = command {
+            let before = paid.insert(*ticket, Cents::from(answer.cents));
+            assert_eq!(before, None, "{}: paid twice", at());
         }
         // Half of all commands are balls that settle nothing; what one of them
         // did to the till still shows after the next command.
@@ -46,6 +47,29 @@ fn check(roll: &NamedRoll) {
     }
     assert!(house == only_accepted, "{}: a refused command left a trace", roll.name);
     compare_tills(&house, &sheet, || roll.name.clone());
+    for (ticket, cents) in paid {
+        let won = house.tickets()[ticket as usize - 1].won();
+        assert_eq!(cents, won, "{}: ticket {ticket}", roll.name);
+    }
+    each_game_has_one_number(&house, &roll.name);
+}
+
+/// The games of a sale, one after another, and of the numbers that collections made of
+/// it each has its own part.
+fn each_game_has_one_number(house: &House, name: &str) {
+    let mut sales: Vec<u32> = Vec::new();
+    let mut games: HashMap<u32, Vec<u32>> = HashMap::new();
+    for ticket in house.tickets() {
+        let sale = ticket.reissue_of.map_or(ticket.number, |number| sales[number as usize - 1]);
+        sales.push(sale);
+        games.entry(sale).or_default().extend(ticket.games.iter().map(|game| game.number));
+    }
+    for (sale, mut games) in games {
+        let terms = &house.tickets()[sale as usize - 1].terms;
+        games.sort_unstable();
+        let all: Vec<u32> = (games[0]..games[0] + terms.games).collect();
+        assert_eq!(games, all, "{name}: ticket {sale}");
+    }
 }
 
 fn compare_tills(house: &House, sheet: &CountSheet, at: impl Fn() -> String) {

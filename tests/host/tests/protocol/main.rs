@@ -77,7 +77,7 @@ fn another_order_is_seen() {
             tried += 1;
         }
     }
-    assert_eq!(tried, 1 + 11 + 5 + 3 + 4 + 3 + 13);
+    assert_eq!(tried, 1 + 11 + 5 + 3 + 4 + 3 + 13 + 5);
 }
 
 /// And the numbers of a live list.
@@ -122,6 +122,8 @@ fn other_names_are_seen() {
         ("| jackpot 1, cents 4 |", "| cents 4, jackpot 1 |"),
         ("marks 80, feature stake 4", "feature stake 4, marks 80"),
         ("| 08 | Lucky Last |", "| 08 | Sell |"),
+        ("| 09 | Collect |", "| 09 | Claim |"),
+        ("| the ticket numbers are used up |", "| the ticket is used up |"),
         ("| number |", "| cents |"),
         ("| paid | claims", "| refunded | claims"),
         ("| the ticket is closed |", "| the ticket is open |"),

@@ -11,11 +11,21 @@ use std::collections::BTreeSet;
 use std::sync::OnceLock;
 
 /// The commands by their bytes, and what is no command.
-const ASKED: [&str; 9] =
-    ["Open", "Sell", "Cancel", "Ball", "Claim", "Expire", "Transfer", "Lucky Last", "Live list"];
+const ASKED: [&str; 10] = [
+    "Open",
+    "Sell",
+    "Cancel",
+    "Ball",
+    "Claim",
+    "Expire",
+    "Transfer",
+    "Lucky Last",
+    "Collect",
+    "Live list",
+];
 
 /// Neighbours in an order that never hold together.
-const APART: [(u8, u8); 4] = [(18, 19), (19, 23), (23, 24), (26, 27)];
+const APART: [(u8, u8); 5] = [(18, 19), (19, 23), (23, 24), (26, 27), (33, 34)];
 
 /// A command that was given: its byte, the refusals that hold, and its code.
 #[derive(PartialEq, Eq, PartialOrd, Ord)]
@@ -99,8 +109,9 @@ fn houses() -> Vec<House> {
     houses
 }
 
-/// Tickets 1 to 7: claimed, due, running, a Keno To Go of an earlier day, one of
-/// today that has its last game to draw, one sold last, and a Keno To Go that waits.
+/// Tickets 1 to 9: claimed, two that are due, a Keno To Go of an earlier day, one of
+/// today that has its last game to draw, another that was collected, one sold last, a
+/// Keno To Go that waits, and the one game of the collected ticket.
 fn tickets_of_every_sort(drawing: bool) -> House {
     let mut writer = RollWriter::opened();
     let twenty: Vec<u8> = (1..=20).collect();
@@ -111,9 +122,11 @@ fn tickets_of_every_sort(drawing: bool) -> House {
     writer.claim(1);
     writer.open(2);
     writer.straight(0, 50, 100, &[1]);
+    writer.straight(0, 50, 100, &[1]);
     (0..49).for_each(|_| writer.balls(&twenty));
     writer.straight(0, 2, 100, &[80]);
     writer.straight(0, 50, 100, &[80]);
+    writer.collect(6);
     if drawing {
         writer.balls(&[2, 3]);
     }
@@ -124,8 +137,9 @@ fn other_commands() -> Vec<Command> {
     let mut commands = vec![Command::Expire];
     commands.extend([0, 1, 2, 3, 7].map(|day| Command::Open { day }));
     commands.extend([0, 1, 2, 80, 81, 255].map(|number| Command::Ball { number }));
-    for ticket in (0..=9).chain([House::LAST_TICKET, u32::MAX]) {
+    for ticket in (0..=10).chain([House::LAST_TICKET, u32::MAX]) {
         commands.extend([Command::Cancel { ticket }, Command::Claim { ticket }]);
+        commands.push(Command::Collect { ticket });
     }
     for jackpot in [0, 6, 7, 8] {
         commands.extend([0, 1, u32::MAX].map(|cents| Command::Transfer { jackpot, cents }));
@@ -179,6 +193,7 @@ fn holding(house: &House, command: &Command) -> BTreeSet<u8> {
         Command::Sell(sale) => of_a_sale(house, sale),
         Command::Cancel { ticket } => of_a_cancel(house, *ticket),
         Command::Claim { ticket } => of_a_claim(house, *ticket),
+        Command::Collect { ticket } => of_a_collection(house, *ticket),
         Command::Ball { number } => vec![
             (25, *number == 0 || *number > 80),
             (26, house.game() > House::LAST_GAME),
@@ -250,6 +265,15 @@ fn of_a_claim(house: &House, number: u32) -> Vec<(u8, bool)> {
     told
 }
 
+fn of_a_collection(house: &House, number: u32) -> Vec<(u8, bool)> {
+    let mut told = of_a_number(house, number);
+    told.push((35, house.issued() >= House::LAST_TICKET));
+    if let Some(ticket) = ticket(house, number) {
+        told.extend([(33, ticket.is_finished()), (34, ticket.is_live() && ticket.won() == 0)]);
+    }
+    told
+}
+
 /// A number that was issued and that no ticket of the house has was sold and
 /// cancelled before the house was begun.
 fn of_a_number(house: &House, number: u32) -> Vec<(u8, bool)> {
@@ -262,9 +286,10 @@ fn ticket(house: &House, number: u32) -> Option<&Ticket> {
     house.tickets().iter().find(|ticket| ticket.number == number)
 }
 
+/// A ticket that was reissued has begun, whichever games are left.
 fn has_begun(house: &House, ticket: &Ticket) -> bool {
     let first = ticket.first_game();
-    first < house.game() || first == house.game() && house.is_drawing()
+    !ticket.is_sold() || first < house.game() || first == house.game() && house.is_drawing()
 }
 
 fn can_take_off(house: &House, ticket: &Ticket) -> bool {

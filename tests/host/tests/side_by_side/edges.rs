@@ -64,7 +64,7 @@ fn look_alikes(number: u32) -> impl Iterator<Item = u32> {
     beside.into_iter().map(move |more| number + more)
 }
 
-/// Tickets that are waiting, running, due, claimed and cancelled.
+/// Tickets that are waiting, running, due, claimed, cancelled, collected and reissued.
 fn tickets() -> Vec<u8> {
     let mut writer = RollWriter::opened();
     for games in [1, 1, 1, 2, 50, 3] {
@@ -74,14 +74,17 @@ fn tickets() -> Vec<u8> {
     writer.balls(&(1..=20).collect::<Vec<u8>>());
     writer.claim(2);
     writer.straight(0, 1, 100, &[1]);
+    writer.collect(6);
     writer.ball(80);
-    for number in 0..=8 {
+    for number in 0..=9 {
         for ticket in look_alikes(number).skip(1) {
             writer.cancel(ticket);
             writer.claim(ticket);
+            writer.collect(ticket);
         }
     }
-    for number in 0..=8 {
+    for number in 0..=9 {
+        writer.collect(number);
         writer.cancel(number);
         writer.claim(number);
     }

@@ -36,6 +36,7 @@ fn lucky_roll(random: &mut Random) -> Vec<u8> {
         if random.percent(60) {
             writer.claim_last(tickets);
         }
+        collect_some(&mut writer, random, &guests);
         // The next day, a year on, or the day after that.
         match random.below(3) {
             0 => writer.open_after(1),
@@ -69,6 +70,21 @@ fn lucky_ticket(writer: &mut RollWriter, random: &mut Random, guests: &Guests) {
         shapes::sale(&shape, games, stake, &numbers)
     };
     writer.give(&Command::Sell(sale));
+}
+
+/// Of the winners with games left, sometimes while the next game is drawn.
+fn collect_some(writer: &mut RollWriter, random: &mut Random, guests: &Guests) {
+    if random.percent(30) {
+        writer.ball(guests.numbers[20]);
+    }
+    for ticket in writer.collectable() {
+        if random.percent(40) {
+            writer.collect(ticket);
+        }
+    }
+    if writer.house().is_drawing() {
+        writer.draw_from(&guests.numbers[20..]);
+    }
 }
 
 /// Unclaimed money goes into a jackpot, whole or in part or one cent too much.

@@ -6,6 +6,7 @@
 // Each test file is a program of its own and uses its part of this.
 #![allow(dead_code)]
 
+pub mod collecting;
 pub mod dates;
 pub mod examples;
 pub mod lucky_last;
@@ -21,7 +22,7 @@ pub type NamedCheck = (&'static str, fn(Flaw) -> Check);
 
 /// Every check, by name.
 pub fn all() -> Vec<NamedCheck> {
-    [examples::ALL, traps::ALL, dates::ALL, lucky_last::ALL].concat()
+    [examples::ALL, traps::ALL, dates::ALL, lucky_last::ALL, collecting::ALL].concat()
 }
 
 pub fn expect<T: PartialEq + Debug>(what: &str, got: T, want: T) -> Check {
@@ -150,6 +151,10 @@ impl Desk {
 
     pub fn expire(&mut self) -> Answer {
         self.give(&Command::Expire)
+    }
+
+    pub fn collect(&mut self, ticket: u32) -> Answer {
+        self.give(&Command::Collect { ticket })
     }
 
     pub fn transfer(&mut self, jackpot: u8, cents: u32) -> Answer {

@@ -1,6 +1,6 @@
 -- `tickets::claim::claim_ticket` meets its contract: the refusals are the table's rows in their order, and a claim removes the ticket, which with
 -- nothing due is finished and so closed.
-use Prim.Native.Nat.{ℕ, ◌+◌, ◌-◌, ◌^◌, ◌<◌}
+use Prim.Native.Nat.{ℕ, ◌-◌}
 use native.Mathlib.Omega.{arith}
 use mathlib.Core.Path.{◌≡◌, sym, ap, ◌∙◌}
 use mathlib.Core.Bool.{true, false}
@@ -10,7 +10,6 @@ use Rattle.sale.specs.Checks.{first_met}
 use Rattle.house.specs.Tickets.{Ticket, games_left, is_finished, is_live, with_due}
 use Rattle.house.specs.Model.{with_paid}
 use Rattle.house.specs.Commands.{ticket_at, changed, still_live, claim, rows_of, code_of, claimed, act, reply}
-use Rattle.house.specs.Till.{till_of}
 use Rattle.house.specs.View.{marks_at, ticket_from, tickets_of, without, view}
 use Rattle.tickets.specs.Steps.{claim_rows}
 use Rattle.tickets.specs.declared.lookup.Found.{Found}
@@ -19,7 +18,7 @@ use Rattle.house.proofs.Ledger.{with_live}
 use Rattle.house.proofs.Refusals.{claim_accepted}
 use Rattle.house.proofs.ReachedHouses.{reached_sure}
 use Rattle.house.proofs.ViewLaws.{refused_as, carried_done, view_by}
-use Rattle.tickets.proofs.FoundTickets.{FoundTicket, found_in, look_up_refused, found_few, found_rest, found_within, found_ticket, found_holds, found_changed}
+use Rattle.tickets.proofs.FoundTickets.{FoundTicket, found_in, look_up_refused, found_few, found_rest, found_within, found_ticket, found_payable, found_changed}
 use Rattle.tickets.proofs.claim.claim_ticket.Goals as goal
 use Rattle.tickets.proofs.claim.claim_ticket.Goals.{In_ok-found}
 
@@ -71,13 +70,6 @@ module _ {h : House} {words marks : List ℕ} {n : ℕ} {found : Found} (here : 
       (rw (paid_closed h.game (found_in found marks) finished) moved))
       ∙ ap (λ t. with_live (view (paid_out h t.due) words' marks') live) (sym (found_ticket here))
 
-  room : h.counters.paid + (found_in found marks).due < 2 ^ 63
-  unfolding till_of view
-  room =
-      let due : (found_in found marks).due < 2 ^ 62 = found_holds here (λ t. t.due < 2 ^ 62) here.sure.dues in
-      let paid : h.counters.paid < 2 ^ 62 = here.sure.fit.figures.paid in
-      omega arith
-
 -- ---- at the places of the code
 
 -- the ticket is found
@@ -109,7 +101,7 @@ pub overflow_sub-house : goal.overflow_sub-house
 overflow_sub-house c = omega (arith, found_within (here (goal.at.overflow_sub-house c).In_ok-found))
 
 pub overflow_add-house : goal.overflow_add-house
-overflow_add-house c = omega (arith, room (here (goal.at.overflow_add-house c).In_ok-found))
+overflow_add-house c = omega (arith, found_payable (here (goal.at.overflow_add-house c).In_ok-found))
 
 pub returns : goal.returns
 unfolding reply

@@ -8,7 +8,7 @@ use rolls::RollWriter;
 const LIVE: [u32; 3] = [1, 50, 200];
 
 pub fn cases() -> Vec<Case> {
-    let sorts = [closed_claims, paid_claims, balls, settlement::uncut];
+    let sorts = [closed_claims, paid_claims, collections, balls, settlement::uncut];
     sorts.into_iter().flat_map(|sort| LIVE.map(sort)).collect()
 }
 
@@ -30,6 +30,19 @@ fn paid_claims(live: u32) -> Case {
     let name = format!("claim, paid, the oldest of up to {live}");
     let claim = |index| Command::Claim { ticket: index as u32 + 1 };
     Case::repeated(&name, writer.finish(), 0, live as usize, claim)
+}
+
+/// So many winners in the order of their tickets, each of which is live again under a new
+/// number.
+fn collections(live: u32) -> Case {
+    let mut writer = RollWriter::opened();
+    for _ticket in 0..live {
+        writer.straight(0, 2, 100, &[1]);
+    }
+    writer.balls(&twenty());
+    let name = format!("collect, the oldest of up to {live}");
+    let collect = |index| Command::Collect { ticket: index as u32 + 1 };
+    Case::repeated(&name, writer.finish(), 0, live as usize, collect)
 }
 
 /// The first nineteen of the second game.
