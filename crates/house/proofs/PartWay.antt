@@ -12,15 +12,15 @@ use Rattle.house.specs.Tickets.{Ticket, keno_to_go_begun}
 use Rattle.house.specs.Model.{Model, fresh, is_drawing}
 use Rattle.house.specs.Commands.{Command, collect, replies, ticket_at, reissued_ticket, collected, code_of, act, reply, answer_of, step}
 use Rattle.house.specs.Till.{Figures, till_of}
-use Rattle.house.specs.Claims.{Log, reissues, effect_of, effect_in, Span, games_of, span_of, won_by, payments}
+use Rattle.house.specs.Claims.{Log, Span, games_of, span_of, won_by, payments}
 use Rattle.house.specs.Balance.{State, next, run, answer_after}
 use Rattle.house.proofs.Ledger.{Orderly, house_of, collected_ledger}
 use Rattle.house.proofs.OneCommand.{accepted_done, accepted_code}
-use Rattle.house.proofs.Refusals.{CollectAccepted, collect_accepted}
+use Rattle.house.proofs.Refusals.{CollectAccepted}
 use Rattle.house.proofs.LiveTickets.{collected_house, collected_live}
 use Rattle.house.proofs.SheetFigures.{till_of_house, collect_owed, collect_held}
-use Rattle.house.proofs.LogLaws.{logged, span_has, games_cut, Untouched, untouched, reissued_span, kept_span, number_collected}
-use Rattle.house.proofs.Won.{Told, DueTold, game_told, issued_told, collect_due}
+use Rattle.house.proofs.LogLaws.{logged, span_has, games_cut, number_collected}
+use Rattle.house.proofs.Won.{Told, DueTold, collects, accepted, collect_due, old_span, new_span, others_same}
 use Rattle.house.proofs.Theorem.{booked, run_more}
 
 -- whether a number has a game, told from the commands and their codes
@@ -67,17 +67,13 @@ pub record CollectedPartWay (n : ℕ) (before after : State) : Type 0 where
 
 module _ (m : Model) (log : Log) (n : ℕ) (orderly : Orderly m) (told : Told m log) (accept : code_of (house_of m) (collect n) ≡ 0) where
   facts : CollectAccepted (house_of m) n
-  facts = collect_accepted (house_of m) n accept
+  facts = accepted m log n told accept
 
   due : DueTold m.game log n (ticket_at n (house_of m).live)
   due = collect_due m log n told accept
 
   abbrev then : Log
   then = logged (collect n) 0 ∷ log
-
-  collects : effect_in (logged (collect n) 0) ≡ reissues n
-  unfolding effect_in effect_of
-  collects = refl
 
   -- the tills of the house and of the ledger behind it
   till_then : till_of (collected n (house_of m)) ≡ till_of (collected_ledger n m)
@@ -99,10 +95,7 @@ module _ (m : Model) (log : Log) (n : ℕ) (orderly : Orderly m) (told : Told m 
   kept_games : (g : ℕ) → member g (games_of (span_of n then)) ≡ (ltb g m.game && member g (games_of (span_of n log)))
   kept_games g =
       let s : Span = span_of n log in
-      let span : span_of n then ≡ record { first = s.first; stop = min s.stop m.game } =
-      kept_span (logged (collect n) 0) log n collects (λ same. omega (arith, facts.issued, issued_told m log told))
-      ∙ (λ i. record { first = s.first; stop = min s.stop (game_told m log told i) }) in
-      ap (λ (s : Span). member g (games_of s)) span
+      ap (λ (s : Span). member g (games_of s)) (old_span m log n told accept)
       ∙ span_has g (record { first = s.first; stop = min s.stop m.game })
       ∙ games_cut s.first s.stop m.game m.game g (λ low under. under) (λ low under. under)
       ∙ ap (λ b. ltb g m.game && b) (sym (span_has g s))
@@ -110,10 +103,7 @@ module _ (m : Model) (log : Log) (n : ℕ) (orderly : Orderly m) (told : Told m 
   reissued_games : (g : ℕ) → member g (games_of (span_of (m.issued + 1) then)) ≡ (leb m.game g && member g (games_of (span_of n log)))
   reissued_games g =
       let s : Span = span_of n log in
-      let span : span_of (m.issued + 1) then ≡ record { first = m.game; stop = s.stop } =
-      reissued_span (logged (collect n) 0) log n collects (m.issued + 1) (ap (λ k. k + 1) (issued_told m log told))
-      ∙ (λ i. record { first = game_told m log told i; stop = s.stop }) in
-      ap (λ (s : Span). member g (games_of s)) span
+      ap (λ (s : Span). member g (games_of s)) (new_span m log n told accept)
       ∙ span_has g (record { first = m.game; stop = s.stop })
       ∙ go (leb m.game g) refl
       ∙ ap (λ b. leb m.game g && b) (sym (span_has g s))
@@ -126,10 +116,6 @@ module _ (m : Model) (log : Log) (n : ℕ) (orderly : Orderly m) (told : Told m 
           ap (λ b. b && ltb g (span_of n log).stop) (sym (le-leb (span_of n log).first g (omega (arith, due.span_begun))))
       go false e = refl
 
-  -- what is told of any other number is not touched
-  free_of : (k : ℕ) → (k ≡ n → ⊥) → (k ≡ m.issued + 1 → ⊥) → Untouched k log (effect_in (logged (collect n) 0))
-  free_of k old new = subst⁻¹ (Untouched k log) collects (λ next. new (omega (arith, issued_told m log told)), λ same. old (sym same))
-
   collected_there : CollectedPartWay n (record { house = house_of m; log = log }) (record { house = collected n (house_of m); log = then })
   unfolding till_of collected reply keno_to_go_begun
   collected_there =
@@ -139,7 +125,7 @@ module _ (m : Model) (log : Log) (n : ℕ) (orderly : Orderly m) (told : Told m 
             ∙ ap (λ cents. answer_of (replies (m.issued + 1) cents)) due.won;
         unpaid = due.unpaid;
         once =
-            number_collected (logged (collect n) 0) log n collects n
+            number_collected (logged (collect n) 0) log n (collects m log n told accept) n
             ∙ ap₂ (λ here k. cond here (k + 1) k) (eq-eqb n n refl) due.unpaid;
         taken = refl;
         refunded = refl;
@@ -148,7 +134,7 @@ module _ (m : Model) (log : Log) (n : ℕ) (orderly : Orderly m) (told : Told m 
         owed = owed_then;
         kept = kept_games;
         reissued = reissued_games;
-        others = λ k g old new. ap (λ s. member g (games_of s)) (untouched k log (logged (collect n) 0) (free_of k old new)).span;
+        others = λ k g old new. ap (λ s. member g (games_of s)) (others_same m log n told accept k old new).span;
         live = collected_live m n;
         operands = refl;
         free = refl;

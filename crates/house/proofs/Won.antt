@@ -425,19 +425,31 @@ module _ (m : Model) (log : Log) (n : ℕ) (told : Told m log) (accept : code_of
   abbrev old : Ticket
   old = ticket_at n (house_of m).live
 
-  collects : effect_in collection ≡ reissues n
+  pub collects : effect_in collection ≡ reissues n
   unfolding effect_in effect_of
   collects = refl
 
-  accepted : CollectAccepted (house_of m) n
+  pub accepted : CollectAccepted (house_of m) n
   accepted = collect_accepted (house_of m) n accept
 
   pub collect_due : DueTold m.game log n old
   collect_due = due_told m log n told accepted.here accepted.due
 
-  -- the old number is not the next
-  not_next : (progress_of log).issued + 1 ≡ n → ⊥
-  not_next same = omega (arith, issued_told m log told, accepted.issued)
+  -- the spans of the two numbers, and what is told of the others
+  pub old_span : span_of n collected_log ≡ record { first = (span_of n log).first; stop = min (span_of n log).stop m.game }
+  old_span =
+      kept_span collection log n collects (λ same. omega (arith, issued_told m log told, accepted.issued))
+      ∙ (λ i. record { first = (span_of n log).first; stop = min (span_of n log).stop (game_told m log told i) })
+
+  pub new_span : span_of (m.issued + 1) collected_log ≡ record { first = m.game; stop = (span_of n log).stop }
+  new_span =
+      reissued_span collection log n collects (m.issued + 1) (ap (λ (k : ℕ). k + 1) (issued_told m log told))
+      ∙ (λ i. record { first = game_told m log told i; stop = (span_of n log).stop })
+
+  pub others_same : (k : ℕ) → (k ≡ n → ⊥) → (k ≡ m.issued + 1 → ⊥) → SameTold k log collected_log
+  others_same k old new =
+      untouched k log collection
+      (subst⁻¹ (Untouched k log) collects (λ next. new (omega (arith, issued_told m log told)), λ same. old (sym same)))
 
   game_after : game_of collected_log ≡ m.game
   unfolding progress_of progress_after
@@ -451,15 +463,12 @@ module _ (m : Model) (log : Log) (n : ℕ) (told : Told m log) (accept : code_of
 
   ended_ticket : (t : Ticket) → t.number ≡ n → TicketTold m.game log t → TicketTold m.game collected_log (collected_ticket m t)
   ended_ticket t is f =
-      let before : Span = span_of n log in
-      let span : span_of n collected_log ≡ record { first = before.first; stop = min before.stop m.game } =
-      kept_span collection log n collects not_next ∙ (λ i. record { first = before.first; stop = min before.stop (game_told m log told i) }) in
       let ended : Ticket = with_stop (with_due t 0) m.game in
       finished_day_lem m.game collected_log ended (is_finished m.game ended && eqb ended.finished_day 0) m.day
       (subst⁻¹ (λ (k : ℕ). Follows m.game collected_log k t.first m.game 0) is
       (record {
-        runs = subst⁻¹ (λ (s : Span). RunsBy m.game s t.first m.game) span (ended_runs m.game t.first before);
-        begins = subst⁻¹ (λ (s : Span). t.first ≤ s.first) span (subst (λ (k : ℕ). t.first ≤ (span_of k log).first) is f.begins);
+        runs = subst⁻¹ (λ (s : Span). RunsBy m.game s t.first m.game) old_span (ended_runs m.game t.first (span_of n log));
+        begins = subst⁻¹ (λ (s : Span). t.first ≤ s.first) old_span (subst (λ (k : ℕ). t.first ≤ (span_of k log).first) is f.begins);
         dues = moved refl (omega arith);
       }))
 
@@ -469,25 +478,18 @@ module _ (m : Model) (log : Log) (n : ℕ) (told : Told m log) (accept : code_of
     where
       go : (here : Bool) → eqb t.number n ≡ here → TicketTold m.game collected_log (cond here (collected_ticket m t) t)
       go true here = ended_ticket t (eqb-true t.number n here) f
-      go false other =
-          follows_same
-          (untouched t.number log collection
-          (subst⁻¹ (Untouched t.number log) collects
-          (λ next. omega (arith, within.1, orderly.issued, issued_told m log told), λ same. eqb-false t.number n other (sym same)))) f
+      go false other = follows_same (others_same t.number (eqb-false t.number n other) (λ next. omega (arith, within.1, orderly.issued))) f
 
   new_ticket : TicketTold m.game collected_log (reissued_ticket m old)
   unfolding still_live
   new_ticket =
       let number : ℕ = m.issued + 1 in
       let before : Span = span_of n log in
-      let span : span_of number collected_log ≡ record { first = m.game; stop = before.stop } =
-      reissued_span collection log n collects number (ap (λ (k : ℕ). k + 1) (issued_told m log told))
-      ∙ (λ i. record { first = game_told m log told i; stop = before.stop }) in
-      let start : (span_of number collected_log).first ≡ m.game = ap (λ (s : Span). s.first) span in
+      let start : (span_of number collected_log).first ≡ m.game = ap (λ (s : Span). s.first) new_span in
       let here = found n (TicketTold m.game log) (is_live m.game) m.live told.tickets accepted.here in
       let runs : RunsBy m.game before old.first old.stop = subst (λ (k : ℕ). RunsBy m.game (span_of k log) old.first old.stop) here.1 here.0.runs in
       record {
-        runs = subst⁻¹ (λ (s : Span). RunsBy m.game s old.first old.stop) span
+        runs = subst⁻¹ (λ (s : Span). RunsBy m.game s old.first old.stop) new_span
             (reissued_runs m.game old.first old.stop before (omega (arith, collect_due.span_begun)) runs);
         begins = omega (arith, start, collect_due.begun);
         dues = owed (sym (nothing_won number collected_log (omega (arith, start, game_after)))) (none_paid number (omega arith));
