@@ -1,7 +1,8 @@
 /* A host in C: document 01's printed roll, one command at a time and in one roll,
  * a game with a winner and two jackpot hits, another whose last ball wins, a ticket that
- * is collected part way, the live list after whatever issues or closes tickets, and every
- * stop and refusal of the boundary. Ends with 0, or with 1 and a message for each check that fails. */
+ * is collected part way, a game called off, the live list after whatever issues or closes
+ * tickets, and every stop and refusal of the boundary. Ends with 0, or with 1 and a message for
+ * each check that fails. */
 #include "wulipday.h"
 
 #include <stdio.h>
@@ -467,6 +468,36 @@ static void collected(lounge *lounge)
     CHECK(till.retained == 600 - 200 && till.negative);
 }
 
+/* Three balls are in: what two tickets paid for the game is due on them, and one has another
+ * game, which wins. */
+static void called_off(lounge *lounge)
+{
+    static const uint8_t call_off[] = {10};
+    static const uint8_t cancel_2[] = {3, 0, 0, 0, 2};
+    open_lounge(lounge);
+    CHECK(gives(lounge, call_off, 1, (answer){10, 4, 0, 0}));
+    CHECK(gives(lounge, open_day_1, 3, (answer){1, 0, 1, 0}));
+    CHECK(sells(lounge, 1, 2, 1));
+    CHECK(sells(lounge, 1, 1, 2));
+    for (uint8_t number = 1; number <= 3; number++) {
+        const uint8_t ball[] = {4, number};
+        CHECK(gives(lounge, ball, 2, (answer){4, 0, number, 0}));
+    }
+    CHECK(gives(lounge, call_off, 1, (answer){10, 0, 1, 200}));
+    CHECK(lounge->house.game == 2 && lounge->house.drawn == 0);
+    CHECK_LISTS(lounge, 1, 2);
+    wulipday_till_figures till = wulipday_till(lounge->house, lounge->rows);
+    CHECK(till.taken == 300 && till.owed == 200 && till.held == 100);
+    CHECK(till.refunded == 0 && till.pooled == 1350000 && till.retained == 0);
+    CHECK(gives(lounge, cancel_2, 5, (answer){3, 22, 0, 0}));
+    CHECK(gives(lounge, claim_2, 5, (answer){5, 0, 2, 100}));
+    CHECK(draws(lounge, 300));
+    CHECK(gives(lounge, claim_1, 5, (answer){5, 0, 1, 100 + 300}));
+    till = wulipday_till(lounge->house, lounge->rows);
+    CHECK(till.paid == 500 && till.owed == 0 && till.held == 0);
+    CHECK(till.retained == 300 - 100 && till.negative);
+}
+
 int main(void)
 {
     static lounge lounge;
@@ -482,6 +513,7 @@ int main(void)
     losing_house(&lounge);
     lucky_last(&lounge);
     collected(&lounge);
+    called_off(&lounge);
     if (failures > 0) {
         fprintf(stderr, "the host in C: %d checks failed\n", failures);
         return 1;

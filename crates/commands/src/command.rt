@@ -7,6 +7,7 @@ ghost use Rattle.commands.specs.Meant.{meant};
 use crate::open::open_day;
 use crate::transfer::transfer_cents;
 use draw::ball::enter_ball;
+use draw::call_off::call_off_game;
 use house::answer::Receipt;
 use house::state::House;
 use refusals::refusal::Refusal;
@@ -29,6 +30,7 @@ pub enum Command {
     Expire,
     Transfer(u8, u32),
     Collect(u32),
+    CallOff,
 }
 
 // Carries out a command. A sale takes its marks `from` the caller; the other commands do not read them.
@@ -51,5 +53,6 @@ pub fn carry_out(
         Command::Expire => expire_tickets(house, rows, marks),
         Command::Transfer(jackpot, cents) => transfer_cents(house, jackpot, cents),
         Command::Collect(ticket) => collect_ticket(house, rows, marks, ticket),
+        Command::CallOff => call_off_game(house, rows, marks),
     }
 }

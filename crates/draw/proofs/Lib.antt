@@ -1,2 +1,3 @@
 pub mod ClosingLaws
+pub mod CallOffLaws
 pub mod BallLaws

@@ -7,7 +7,7 @@ use Rattle.house.specs.Tickets.{Ticket, with_due}
 use Rattle.house.specs.Model.{Model, with_seeds, with_gained, with_lost}
 use Rattle.house.specs.Commands.{ball, code_of, balls_with, finished_on}
 use Rattle.house.specs.Balance.{Reached}
-use Rattle.house.specs.View.{row_at}
+use Rattle.house.specs.View.{row_at, Affordable}
 use Rattle.house.specs.declared.state.House.{House}
 use Rattle.house.specs.declared.state.Counters.{Counters}
 use Rattle.settlement.specs.declared.settle.Settlement.{Settlement}
@@ -49,6 +49,11 @@ pub record Endable (h : House) (words awards : List ℕ) : Type 0 where
   pub few : h.live ≤ 200
   pub game : h.game < 2 ^ 62
   pub room : (i : ℕ) → i < h.live → (row_at words i).due + get_or awards i 0 < 2 ^ 64
+
+-- live rows whose price of a game is within the most that a ticket can cost
+pub record PricedRows (h : House) (words : List ℕ) : Type 0 where
+  pub few : h.live ≤ 200
+  pub within : (i : ℕ) → i < h.live → Affordable (row_at words i)
 
 -- the draw that an accepted ball completes, its game's twentieth
 pub record CompletesDraw (m : Model) (number : ℕ) (draw : Draw) : Type 0 where

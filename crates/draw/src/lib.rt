@@ -3,5 +3,6 @@
 #![tactic(auto)]
 
 pub mod ball;
+pub mod call_off;
 mod game_end;
 mod settle;

@@ -27,10 +27,10 @@ use Rattle.prizes.proofs.CutPayouts.{payout_le}
 use Rattle.prizes.proofs.SettleLaws.{prizes_within, contributions_within, seeds_within, debts_balance, six_guarantee_kept, eight_guarantee_kept}
 use Rattle.house.specs.Tickets.{Ticket, terms_of, runs_in, is_live, ticket_price, paid_stakes, entry_of, with_due}
 use Rattle.house.specs.Model.{Model, fresh, ticket_limit, game_limit, live_limit, with_money, with_transferred}
-use Rattle.house.specs.Commands.{balls_with, running_in, settlement, awarded, finished_on, game_settled, still_live, with_primary, transferred}
+use Rattle.house.specs.Commands.{balls_with, running_in, settlement, stakes_paid, awarded, finished_on, game_settled, game_called_off, still_live, with_primary, transferred}
 use Rattle.house.specs.Till.{Figures, till_of}
 use Rattle.house.specs.Balance.{Balanced}
-use Rattle.house.proofs.Ledger.{All, Kept, Orderly, house_of, ended_tickets, settled_ledger}
+use Rattle.house.proofs.Ledger.{All, Kept, Orderly, house_of, ended_tickets, settled_ledger, called_off_ledger}
 use Rattle.house.proofs.LiveTickets.{ended_live}
 use Rattle.house.proofs.SpanLaws.{price_kept}
 use Rattle.sale.proofs.WayLaws.{ways_few}
@@ -243,6 +243,11 @@ game_bounded m ok bounds b not_last =
     let six = six_guarantee_kept draw m.six m.eight es bounds.six_guarantee in
     let eight = eight_guarantee_kept draw m.six m.eight es bounds.eight_guarantee in
     omega arith
+
+-- a call-off moves no counter and no pool
+pub called_off_bounded : (m : Model) → Bounded m → m.game ≤ game_limit → Bounded (called_off_ledger m)
+unfolding game_called_off
+called_off_bounded m bounds not_last = let few = ended_few m (stakes_paid (house_of m)) bounds.live in omega arith
 
 -- a transfer leaves both guarantees
 pub transferred_bounded : (m : Model) (j cents : ℕ) → Bounded m → Bounded (transferred j cents m)

@@ -15,22 +15,23 @@ use Rattle.sale.proofs.KeepLaws.{length_keep_le}
 use Rattle.prizes.proofs.SettleLaws.{pools_balance}
 use Rattle.house.specs.Tickets.{entry_of, with_due, with_stop}
 use Rattle.house.specs.Model.{Model, live_limit}
-use Rattle.house.specs.Commands.{Command, open', sell, cancel, ball, claim, expire, transfer, collect, Reply, still_live, changed, cancel_stop, cancelled_ticket, sold_ticket, code_of, opened, sold, cancelled, balls_with, settles, running_in, settlement, game_settled, ball_entered, claimed, is_expired, expired, transferred, has_ticket, ticket_at, reissued_ticket, collected, act, reply}
+use Rattle.house.specs.Commands.{Command, open', sell, cancel, ball, claim, expire, transfer, collect, call_off, Reply, still_live, changed, cancel_stop, cancelled_ticket, sold_ticket, code_of, opened, sold, cancelled, balls_with, settles, running_in, settlement, game_settled, ball_entered, claimed, is_expired, expired, transferred, has_ticket, ticket_at, reissued_ticket, collected, game_called_off, act, reply}
 use Rattle.house.specs.Till.{till_of}
 use Rattle.house.specs.Sheet.{moved, feed, sheet_reply}
 use Rattle.house.specs.Claims.{Log, sheet_of}
 use Rattle.house.specs.Balance.{Balanced}
-use Rattle.house.proofs.Ledger.{Orderly, house_of, cancelled_ledger, claimed_ledger, expired_ledger, collected_ledger, settled_ledger, sheet_for}
+use Rattle.house.proofs.Ledger.{Orderly, house_of, cancelled_ledger, claimed_ledger, expired_ledger, collected_ledger, settled_ledger, called_off_ledger, sheet_for}
 use Rattle.house.proofs.ListLaws.{cond_either}
-use Rattle.house.proofs.Refusals.{sell_accepted, cancel_accepted, ball_accepted, claim_accepted, transfer_accepted, collect_accepted}
+use Rattle.house.proofs.Refusals.{sell_accepted, cancel_accepted, ball_accepted, claim_accepted, transfer_accepted, collect_accepted, call_off_accepted}
 use Rattle.house.proofs.CheckedOperands.{playable}
-use Rattle.house.proofs.LiveTickets.{finished_on_keeps, sold_house_lem, cancelled_house, settled_house, claimed_house, expired_house_lem, collected_house, collected_live}
-use Rattle.house.proofs.OrderlyLedgers.{orderly_with, orderly_changed, orderly_sold, orderly_collected, orderly_settled, orderly_entered, cancelled_kept, paid_kept}
-use Rattle.house.proofs.SheetSteps.{opened_sheet, sold_sheet, sold_balance, cancelled_sheet, cancelled_balance, claimed_sheet, claimed_balance, collected_sheet, collected_balance, expired_sheet, expired_balance, transferred_sheet, transferred_balance, twentieth_sheet, earlier_sheet, settled_balance}
-use Rattle.house.proofs.SheetAnswers.{sold_reply, cancelled_reply, ball_reply, claimed_reply, expired_reply, transferred_reply, collected_reply}
+use Rattle.house.proofs.LiveTickets.{finished_on_keeps, sold_house_lem, cancelled_house, settled_house, claimed_house, expired_house_lem, collected_house, collected_live, called_off_house}
+use Rattle.house.proofs.OrderlyLedgers.{orderly_with, orderly_changed, orderly_sold, orderly_collected, orderly_settled, orderly_called_off, orderly_entered, cancelled_kept, paid_kept}
+use Rattle.house.proofs.SheetSteps.{opened_sheet, sold_sheet, sold_balance, cancelled_sheet, cancelled_balance, claimed_sheet, claimed_balance, collected_sheet, collected_balance, expired_sheet, expired_balance, transferred_sheet, transferred_balance, twentieth_sheet, earlier_sheet, settled_balance, called_off_owed, called_off_sheet, called_off_balance}
+use Rattle.house.proofs.SheetAnswers.{sold_reply, cancelled_reply, ball_reply, claimed_reply, expired_reply, transferred_reply, collected_reply, called_off_reply}
 use Rattle.house.proofs.LogLaws.{logged}
-use Rattle.house.proofs.Won.{Told, told_open, told_sell, told_cancel, told_early, told_settled, told_claim, told_expire, told_transfer, told_collect}
-use Rattle.house.proofs.Bounded.{Bounded, Fit, few_kept, fewer_kept, game_bounded, transferred_bounded}
+use Rattle.house.proofs.Won.{Told, told_open, told_sell, told_cancel, told_claim, told_expire, told_transfer, told_collect}
+use Rattle.house.proofs.GamesTold.{told_early, told_settled, told_called_off}
+use Rattle.house.proofs.Bounded.{Bounded, Fit, few_kept, fewer_kept, game_bounded, called_off_bounded, transferred_bounded}
 
 -- a number and cents that fit the bytes of an answer
 pub record Shown (r : Reply) : Type 0 where
@@ -80,7 +81,7 @@ module _ (m : Model) (log : Log) (ok : Orderly m) (told : Told m log) (b : Bound
       )
 
   pub followed : (c : Command) → code_of (house_of m) c ≡ 0 → Followed m log c (act (house_of m) c) (reply (house_of m) c)
-  unfolding act opened sold cancelled ball_entered claimed expired transferred collected changed still_live till_of reply sheet_reply
+  unfolding act opened sold cancelled ball_entered claimed expired transferred collected game_called_off changed still_live till_of reply sheet_reply
   followed (open' d) e =
       record {
         ledger = opened d m;
@@ -215,7 +216,19 @@ module _ (m : Model) (log : Log) (ok : Orderly m) (told : Told m log) (b : Bound
         orderly = orderly_collected m n ok b.game facts;
         bounded = omega (arith, collected_few n facts.here, facts.numbered, ap (λ (h : Model). length h.live) drops);
         balanced = collected_balance m n ok facts.here balance;
-        told = told_collect m log n told e ok (fed (collect n) (collected_ledger n m) (collected_sheet m n ok facts.here facts.running));
+        told = told_collect m log n ok told e (fed (collect n) (collected_ledger n m) (collected_sheet m n ok facts.here facts.running));
         agrees = collected_reply m ok n facts.here;
         shown = λ short before after. omega (arith, facts.numbered, after.figures.paid);
+      }
+  followed call_off e =
+      let facts = call_off_accepted (house_of m) e in
+      record {
+        ledger = called_off_ledger m;
+        drops = called_off_house m;
+        orderly = orderly_called_off m ok facts.opened;
+        bounded = called_off_bounded m b facts.game;
+        balanced = called_off_balance m balance;
+        told = told_called_off m log told (fed call_off (called_off_ledger m) (called_off_sheet m ok));
+        agrees = called_off_reply m ok;
+        shown = λ short before after. omega (arith, facts.game, called_off_owed m, after.figures.owed);
       }

@@ -21,7 +21,7 @@ use Rattle.prizes.specs.LuckyLast.{lucky_last_row, lucky_last_cents, numbers_mar
 use Rattle.sale.specs.Kinds.{jackpot_by}
 use Rattle.calendar.specs.Calendar.{is_leap_year, month_length, next_day, date_of, month_days, year_days, day_of, a_year_on, is_later, has_expired}
 use Rattle.house.specs.Tickets.{runs_in, games_left, paid_stakes}
-use Rattle.house.specs.Commands.{changed, Command, open', sell, ball, claim, expire, collect, ticket_at, still_live, rows_of, code_of, opened, sold, settlement, awarded, game_settled, ball_entered, claimed, is_expired, expired, collected, act, reply, step}
+use Rattle.house.specs.Commands.{changed, Command, open', sell, ball, claim, expire, collect, call_off, ticket_at, still_live, rows_of, code_of, opened, sold, settlement, awarded, game_settled, game_called_off, ball_entered, claimed, is_expired, expired, collected, act, reply, step}
 use Rattle.house.specs.Balance.{run, answer_after, next, run_from}
 
 -- a ticket of one way on the first numbers, with a feature or without one
@@ -89,6 +89,17 @@ won_first = game 1 (first 0 3 3 100 ∷ [])
 abbrev won_again : List Command
 won_again = won_first ++ (collect 1 ∷ []) ++ drawn_from 41 ++ drawn_from 2
 
+-- Games that are called off: the first with ten balls in, of a ticket for it alone; the first of two, where the second is drawn with the ticket's numbers 1 to 3; and
+-- each of 50, of which the last is free.
+abbrev off_with_ten : List Command
+off_with_ten = open' 1 ∷ first 0 3 1 100 ∷ map (λ n. ball (n + 1)) (below 10)
+
+abbrev off_then_drawn : List Command
+off_then_drawn = open' 1 ∷ first 0 3 2 100 ∷ call_off ∷ drawn_from 1
+
+abbrev all_off : ℕ → List Command
+all_off games = open' 1 ∷ first 0 3 games 100 ∷ replicate games call_off
+
 -- an answer's code, number and cents
 abbrev answered : List Command → Command → List ℕ
 answered commands c = let a = answer_after commands c in a.code ∷ a.number ∷ a.cents ∷ []
@@ -114,5 +125,9 @@ pub settled_examples :
     × (answered won_first (collect 1) ≡ 0 ∷ 2 ∷ 3600 ∷ [])
     × (answered won_again (claim 2) ≡ 0 ∷ 2 ∷ 200 ∷ [])
     × (answered won_again (claim 1) ≡ 19 ∷ 0 ∷ 0 ∷ [])
-unfolding sum below keep every any member kind_of within mark_of size_of last_of hits_of by_group nominated ways mask_sum way_sizes paid_games minimum_stake stake_fits game_price charge first_met marks_fit operand_rows standard_rows cell dollars prize floor_count cut_base joins round_of rounds floored_of cut_prize payout contribution contributed winning_stakes share_of odd_cents each_way rank_among ranked odd_cents_at shares_with shares_from jackpot_won jackpot_shares seed_of reseeded repaid prizes_by full_by jackpot_by winner_of paid_for majors_of prizes_of lucky_last_row lucky_last_cents numbers_marked lucky_last_prize all_prizes_of settle_jackpot settle is_leap_year month_length next_day date_of month_days year_days day_of a_year_on is_later has_expired runs_in games_left paid_stakes ticket_at still_live rows_of code_of opened sold settlement awarded game_settled ball_entered claimed is_expired expired collected act reply step next run_from changed ones ones_in zip_with
-settled_examples = (refl, refl, refl, refl, refl, refl, refl, refl, refl, refl, refl, refl, refl, refl, refl, refl, refl, refl, refl, refl)
+    × (answered off_with_ten call_off ≡ 0 ∷ 1 ∷ 100 ∷ [])
+    × (answered (off_with_ten ++ (call_off ∷ [])) (claim 1) ≡ 0 ∷ 1 ∷ 100 ∷ [])
+    × (answered off_then_drawn (claim 1) ≡ 0 ∷ 1 ∷ 3700 ∷ [])
+    × (pays_claim 1 (all_off 50) ≡ 4900)
+unfolding sum below keep every any member kind_of within mark_of size_of last_of hits_of by_group nominated ways mask_sum way_sizes paid_games minimum_stake stake_fits game_price charge first_met marks_fit operand_rows standard_rows cell dollars prize floor_count cut_base joins round_of rounds floored_of cut_prize payout contribution contributed winning_stakes share_of odd_cents each_way rank_among ranked odd_cents_at shares_with shares_from jackpot_won jackpot_shares seed_of reseeded repaid prizes_by full_by jackpot_by winner_of paid_for majors_of prizes_of lucky_last_row lucky_last_cents numbers_marked lucky_last_prize all_prizes_of settle_jackpot settle is_leap_year month_length next_day date_of month_days year_days day_of a_year_on is_later has_expired runs_in games_left paid_stakes ticket_at still_live rows_of code_of opened sold settlement awarded game_settled game_called_off ball_entered claimed is_expired expired collected act reply step next run_from changed ones ones_in zip_with
+settled_examples = (refl, refl, refl, refl, refl, refl, refl, refl, refl, refl, refl, refl, refl, refl, refl, refl, refl, refl, refl, refl, refl, refl, refl, refl)

@@ -12,7 +12,7 @@ use Rattle.sale.specs.Kinds.{jackpot_by}
 use Rattle.sale.specs.Bounds.{Playable}
 use Rattle.house.specs.Tickets.{Ticket, terms_of, games_left, with_due, with_stop, with_finished_day}
 use Rattle.house.specs.Model.{Model, game_limit}
-use Rattle.house.specs.Commands.{still_live, changed, cancelled_ticket, cancelled, settlement, awarded, finished_on, game_settled, claimed, is_expired, expired, ticket_at, collected_ticket, reissued_ticket, collected}
+use Rattle.house.specs.Commands.{still_live, changed, cancelled_ticket, cancelled, settlement, stakes_paid, awarded, finished_on, game_settled, game_called_off, claimed, is_expired, expired, ticket_at, collected_ticket, reissued_ticket, collected}
 use Rattle.house.specs.Till.{till_of}
 use Rattle.house.specs.Draws.{DifferentBalls}
 use Rattle.house.specs.Sheet.{Sheet, Line, games_from}
@@ -45,6 +45,9 @@ collected_ledger n m =
 
 abbrev pub settled_ledger : ℕ → Model → Model
 settled_ledger b m = with_live (game_settled b (house_of m)) (ended_tickets (settlement b (house_of m)).awards m)
+
+abbrev pub called_off_ledger : Model → Model
+called_off_ledger m = with_live (game_called_off (house_of m)) (ended_tickets (stakes_paid (house_of m)) m)
 
 -- a ticket of the ledger as a line of the sheet
 abbrev pub line_of : ℕ → Ticket → Line

@@ -15,6 +15,7 @@ pub mod LogLaws
 pub mod Numbered
 pub mod AwardLaws
 pub mod Won
+pub mod GamesTold
 pub mod Players
 pub mod Bounded
 pub mod OneCommand
@@ -28,6 +29,7 @@ pub mod ViewLaws
 pub mod CallsBalanced
 pub mod Reliance
 pub mod PartWay
+pub mod CalledOff
 pub mod DifferentBalls
 pub mod OddCentsByNumber
 pub mod Examples

@@ -4,15 +4,15 @@ use Prim.Native.Nat.{ℕ, ◌+◌, ◌≤◌, min}
 use native.Mathlib.Omega.{arith}
 use mathlib.Core.Path.{◌≡◌, refl, sym, ap, ◌∙◌}
 use mathlib.Core.Bool.{Bool, true, false, cond, not, ◌&&◌}
-use mathlib.Core.List.{List, [], ◌∷◌, ◌++◌, map}
+use mathlib.Core.List.{List, [], ◌∷◌, ◌++◌, map, map-map}
 use lib.Dec.{ltb, leb, eqb}
 use borrow.Author.Tests.{ltb-true, leb-true, eqb-true, eqb-false, eq-eqb, ne_eqb, not-false}
 use Rattle.sale.specs.Lists.{keep}
 use Rattle.sale.specs.Checks.{Operands}
-use Rattle.house.specs.Tickets.{Ticket, runs_in, games_left, is_finished, is_live, with_due, with_stop, with_finished_day}
+use Rattle.house.specs.Tickets.{Ticket, runs_in, games_left, paid_stakes, is_finished, is_live, with_due, with_stop, with_finished_day}
 use Rattle.house.specs.Model.{Model, next_game, is_drawing}
-use Rattle.house.specs.Commands.{sold, sold_ticket, cancelled, cancel_stop, cancelled_ticket, settlement, awarded, finished_on, tickets_after_game, game_settled, claimed, is_expired, expired, ticket_at, collected_ticket, reissued_ticket, collected, changed, still_live}
-use Rattle.house.proofs.Ledger.{All, house_of, with_live, ended_tickets, cancelled_ledger, claimed_ledger, expired_ledger, collected_ledger, settled_ledger}
+use Rattle.house.specs.Commands.{sold, sold_ticket, cancelled, cancel_stop, cancelled_ticket, settlement, stakes_paid, awarded, finished_on, tickets_after_game, game_settled, game_called_off, claimed, is_expired, expired, ticket_at, collected_ticket, reissued_ticket, collected, changed, still_live}
+use Rattle.house.proofs.Ledger.{All, house_of, with_live, ended_tickets, cancelled_ledger, claimed_ledger, expired_ledger, collected_ledger, settled_ledger, called_off_ledger}
 use Rattle.house.proofs.ListLaws.{cond_either, keep_snoc, keep_within, keep_map_keep, keep_changed}
 use Rattle.house.proofs.RowLaws.{still_live_all}
 use Rattle.house.proofs.Refusals.{and_true}
@@ -150,6 +150,31 @@ all_awarded P Q game h awards [] p = tt
 all_awarded P Q game h awards (t ∷ ts) p =
     rw (awarded_cons game awards t ts) (h t awards p.0, all_awarded P Q game h (awards_past game awards t) ts p.1)
 
+-- where the awards are a figure of each running ticket, each is due its own
+awarded_each :
+    (game : ℕ) (f : Ticket → ℕ) (ts : List Ticket)
+    → awarded game (map f (keep (runs_in game) ts)) ts ≡ map (λ t. cond (runs_in game t) (with_due t (t.due + f t)) t) ts
+unfolding awarded keep
+awarded_each game f [] = refl
+awarded_each game f (t ∷ ts) = go (runs_in game t) refl (awarded_each game f ts)
+  where
+    running : List ℕ
+    running = map f (keep (runs_in game) ts)
+
+    after : List Ticket
+    after = map (λ u. cond (runs_in game u) (with_due u (u.due + f u)) u) ts
+
+    go :
+        (runs : Bool)
+        → runs_in game t ≡ runs
+        → awarded game running ts ≡ after
+        → awarded game (map f (cond runs (t ∷ keep (runs_in game) ts) (keep (runs_in game) ts))) (t ∷ ts)
+        ≡ cond runs (with_due t (t.due + f t)) t ∷ after
+    go true e rest =
+        ap (λ b. cond b (with_due t (t.due + f t) ∷ awarded game running ts) (t ∷ awarded game (f t ∷ running) ts)) e
+        ∙ ap (◌∷◌ (with_due t (t.due + f t))) rest
+    go false e rest = awarded_idle game running t ts e ∙ ap (◌∷◌ t) rest
+
 awarded_live :
     (day game : ℕ) (awards : List ℕ) (ts : List Ticket)
     → keep (is_live (game + 1)) (map (finished_on day (game + 1)) (awarded game awards (keep (is_live game) ts)))
@@ -183,6 +208,24 @@ pub running_live : (game : ℕ) (ts : List Ticket) → keep (runs_in game) (stil
 unfolding still_live
 running_live game ts =
     keep_within (is_live game) (runs_in game) (λ t e. closed_idle game t (closed_of game t e)) ts
+
+-- a ticket with what it paid for the game due beside what was, if it runs in it
+abbrev pub with_stake_back : ℕ → Ticket → Ticket
+with_stake_back game t = cond (runs_in game t) (with_due t (t.due + paid_stakes game (game + 1) t)) t
+
+-- what a game that is called off leaves of the live tickets
+pub called_off_live : (m : Model)
+    → (game_called_off m).live ≡ still_live (m.game + 1) (map (λ t. finished_on m.day (m.game + 1) (with_stake_back m.game t)) m.live)
+unfolding game_called_off
+called_off_live m =
+    ap (λ ts. still_live (m.game + 1) (map (finished_on m.day (m.game + 1)) ts)) (awarded_each m.game (paid_stakes m.game (m.game + 1)) m.live)
+    ∙ ap (still_live (m.game + 1)) (map-map (finished_on m.day (m.game + 1)) (with_stake_back m.game) m.live)
+
+-- and of each ticket of the ledger
+pub called_off_tickets : (m : Model) → ended_tickets (stakes_paid (house_of m)) m ≡ map (finished_on m.day (m.game + 1)) (map (with_stake_back m.game) m.live)
+called_off_tickets m =
+    ap (λ ts. map (finished_on m.day (m.game + 1)) (awarded m.game (map (paid_stakes m.game (m.game + 1)) ts) m.live)) (running_live m.game m.live)
+    ∙ ap (map (finished_on m.day (m.game + 1))) (awarded_each m.game (paid_stakes m.game (m.game + 1)) m.live)
 
 pub next_game_least : (m : Model) → m.game ≤ next_game m
 next_game_least m = cond_either (λ g. m.game ≤ g) (is_drawing m) (omega arith) (omega arith)
@@ -221,6 +264,10 @@ cancelled_house m n =
 pub settled_house : (m : Model) (b : ℕ) → game_settled b (house_of m) ≡ house_of (settled_ledger b m)
 unfolding game_settled
 settled_house m b = ap (with_live (game_settled b (house_of m))) (ended_live m (settlement b (house_of m)).awards)
+
+pub called_off_house : (m : Model) → game_called_off (house_of m) ≡ house_of (called_off_ledger m)
+unfolding game_called_off
+called_off_house m = ap (with_live (game_called_off (house_of m))) (ended_live m (stakes_paid (house_of m)))
 
 pub claimed_house : (m : Model) (n : ℕ) → claimed n (house_of m) ≡ house_of (claimed_ledger n m)
 unfolding claimed still_live changed

@@ -13,12 +13,13 @@ use borrow.Author.Tests.{le-leb, ne_eqb, eqb-true, eqb-false}
 use Rattle.sale.specs.Lists.{every, any, member}
 use Rattle.sale.specs.Checks.{Operands}
 use Rattle.sale.specs.Bounds.{Playable}
+use Rattle.prizes.specs.declared.jackpot.Jackpot.{Jackpot}
 use Rattle.house.specs.Tickets.{Ticket, runs_in, games_left, is_finished, is_live, with_due, with_stop, with_finished_day}
 use Rattle.house.specs.Model.{Model, Counters, fresh, game_limit, next_game}
-use Rattle.house.specs.Commands.{ball, code_of, sold, sold_ticket, cancel_stop, cancelled_ticket, ticket_at, changed, still_live, collected_ticket, reissued_ticket, collected, balls_with, settles, settlement, awarded, finished_on, game_settled, ball_entered}
+use Rattle.house.specs.Commands.{ball, code_of, sold, sold_ticket, cancel_stop, cancelled_ticket, ticket_at, changed, still_live, collected_ticket, reissued_ticket, collected, balls_with, settles, settlement, stakes_paid, awarded, finished_on, game_settled, game_called_off, ball_entered}
 use Rattle.house.specs.Draws.{Different, DifferentBalls}
 use Rattle.house.specs.Sheet.{games_from}
-use Rattle.house.proofs.Ledger.{All, Fixed, fixed_part, Kept, BallsIn, Orderly, house_of, collected_ledger, settled_ledger}
+use Rattle.house.proofs.Ledger.{All, Fixed, fixed_part, Kept, BallsIn, Orderly, house_of, ended_tickets, collected_ledger, settled_ledger, called_off_ledger}
 use Rattle.house.proofs.ListLaws.{cond_either, All-append, All-map, map_unseen}
 use Rattle.house.proofs.LiveTickets.{finished_on_keeps, award_to, awarded_keeps, all_awarded, next_game_least}
 use Rattle.house.proofs.Refusals.{or_false, and_true, SellAccepted, CollectAccepted, ball_accepted}
@@ -240,13 +241,14 @@ orderly_collected m n ok within h =
     refl
     (reissued_kept m old h.running kept)
 
--- the twentieth ball
-pub orderly_settled :
-    (m : Model) (b : ℕ) → Orderly m → (m.day ≡ 0 → ⊥)
-    → Orderly (settled_ledger b m)
-unfolding game_settled
-orderly_settled m b ok opened =
-    let awards = (settlement b (house_of m)).awards in
+-- the end of a game, whatever its awards and what pools and counters do
+orderly_ended :
+    (m : Model) (awards : List ℕ) (six eight : Jackpot) (counters : Counters)
+    → Orderly m
+    → (m.day ≡ 0 → ⊥)
+    → Orderly
+    (record { day = m.day; game = m.game + 1; balls = []; issued = m.issued; live = ended_tickets awards m; six = six; eight = eight; counters = counters })
+orderly_ended m awards six eight counters ok opened =
     orderly_with m _ ok refl
     (map_unseen (λ t. t.number) (finished_on m.day (m.game + 1))
     (finished_on_keeps (λ t. t.number) (λ t d. refl) m.day (m.game + 1))
@@ -259,7 +261,19 @@ orderly_settled m b ok opened =
     no_balls
     (omega arith)
 
--- a ball before it
+-- by the twentieth ball
+pub orderly_settled :
+    (m : Model) (b : ℕ) → Orderly m → (m.day ≡ 0 → ⊥)
+    → Orderly (settled_ledger b m)
+unfolding game_settled
+orderly_settled m b ok opened = orderly_ended m (settlement b (house_of m)).awards _ _ _ ok opened
+
+-- or by a call-off
+pub orderly_called_off : (m : Model) → Orderly m → (m.day ≡ 0 → ⊥) → Orderly (called_off_ledger m)
+unfolding game_called_off
+orderly_called_off m ok opened = orderly_ended m (stakes_paid (house_of m)) _ _ _ ok opened
+
+-- a ball before the twentieth
 pub orderly_entered :
     (m : Model) (b : ℕ) → Orderly m → code_of (house_of m) (ball b) ≡ 0 → settles b m ≡ false
     → Orderly (ball_entered b m)

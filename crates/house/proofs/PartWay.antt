@@ -1,5 +1,5 @@
--- What a guest who collects part way is given, over every list of commands: what the games drawn by then won, once, and a ticket for the games left under the
--- next number, which alone has them. Read off the ledger and the log that stand behind a run.
+-- What a guest who collects part way is given, over every list of commands: what the games drawn by then won and those called off gave back, once, and a ticket
+-- for the games left under the next number, which alone has them. Read off the ledger and the log that stand behind a run.
 use Prim.Native.Nat.{ℕ, ◌+◌, ◌≤◌, min}
 use native.Mathlib.Omega.{arith}
 use mathlib.Core.Path.{◌≡◌, refl, sym, ap, ap₂, subst⁻¹, ◌∙◌}
@@ -12,8 +12,8 @@ use Rattle.house.specs.Tickets.{Ticket, keno_to_go_begun}
 use Rattle.house.specs.Model.{Model, fresh, is_drawing}
 use Rattle.house.specs.Commands.{Command, collect, replies, ticket_at, reissued_ticket, collected, code_of, act, reply, answer_of, step}
 use Rattle.house.specs.Till.{Figures, till_of}
-use Rattle.house.specs.Claims.{Log, Span, games_of, span_of, won_by, payments}
-use Rattle.house.specs.Balance.{State, next, run, answer_after}
+use Rattle.house.specs.Claims.{Log, Span, games_of, span_of, won_by, given_back, payments}
+use Rattle.house.specs.Balance.{State, run, answer_after}
 use Rattle.house.proofs.Ledger.{Orderly, house_of, collected_ledger}
 use Rattle.house.proofs.OneCommand.{accepted_done, accepted_code}
 use Rattle.house.proofs.Refusals.{CollectAccepted}
@@ -21,11 +21,15 @@ use Rattle.house.proofs.LiveTickets.{collected_house, collected_live}
 use Rattle.house.proofs.SheetFigures.{till_of_house, collect_owed, collect_held}
 use Rattle.house.proofs.LogLaws.{logged, span_has, games_cut, number_collected}
 use Rattle.house.proofs.Won.{Told, DueTold, collects, accepted, collect_due, old_span, new_span, others_same}
-use Rattle.house.proofs.Theorem.{booked, run_more}
+use Rattle.house.proofs.Theorem.{booked, run_more, next_accepted}
 
 -- whether a number has a game, told from the commands and their codes
 abbrev pub has_game : ℕ → ℕ → State → Bool
 has_game g n s = member g (games_of (span_of n s.log))
+
+-- what a number is paid when it is collected: everything that its games drawn by then won, and what it paid for those called off by then
+abbrev pub pays_out : ℕ → State → ℕ
+pays_out n s = won_by n s.log + given_back n s.log
 
 -- the ticket of a number before it is collected, and the one that is issued for it
 abbrev pub old_ticket : ℕ → State → Ticket
@@ -36,8 +40,8 @@ new_ticket n s = reissued_ticket s.house (old_ticket n s)
 
 -- an accepted Collect of ticket number n: the list of commands before it, and with it
 pub record CollectedPartWay (n : ℕ) (before after : State) : Type 0 where
-  -- "It answers the new number and the cents": everything that the old number's games drawn by then won
-  pub answers : (step before.house (collect n)).answer ≡ answer_of (replies (before.house.issued + 1) (won_by n before.log))
+  -- "It answers the new number and the cents"
+  pub answers : (step before.house (collect n)).answer ≡ answer_of (replies (before.house.issued + 1) (pays_out n before))
   -- for which the old number is paid now, and was not before
   pub unpaid : payments n before.log ≡ 0
   pub once : payments n after.log ≡ 1
@@ -45,8 +49,8 @@ pub record CollectedPartWay (n : ℕ) (before after : State) : Type 0 where
   pub taken : (till_of after.house).taken ≡ (till_of before.house).taken
   pub refunded : (till_of after.house).refunded ≡ (till_of before.house).refunded
   pub held : (till_of after.house).held ≡ (till_of before.house).held
-  pub paid : (till_of after.house).paid ≡ (till_of before.house).paid + won_by n before.log
-  pub owed : (till_of before.house).owed ≡ (till_of after.house).owed + won_by n before.log
+  pub paid : (till_of after.house).paid ≡ (till_of before.house).paid + pays_out n before
+  pub owed : (till_of before.house).owed ≡ (till_of after.house).owed + pays_out n before
   -- "the reissued games are the new number's only": of the old number's games it keeps those before the current one, and the new number has the others
   pub kept : (g : ℕ) → has_game g n after ≡ (ltb g before.house.game && has_game g n before)
   pub reissued : (g : ℕ) → has_game g (before.house.issued + 1) after ≡ (leb before.house.game g && has_game g n before)
@@ -67,10 +71,10 @@ pub record CollectedPartWay (n : ℕ) (before after : State) : Type 0 where
 
 module _ (m : Model) (log : Log) (n : ℕ) (orderly : Orderly m) (told : Told m log) (accept : code_of (house_of m) (collect n) ≡ 0) where
   facts : CollectAccepted (house_of m) n
-  facts = accepted m log n told accept
+  facts = accepted m log n orderly told accept
 
   due : DueTold m.game log n (ticket_at n (house_of m).live)
-  due = collect_due m log n told accept
+  due = collect_due m log n orderly told accept
 
   abbrev then : Log
   then = logged (collect n) 0 ∷ log
@@ -84,7 +88,7 @@ module _ (m : Model) (log : Log) (n : ℕ) (orderly : Orderly m) (told : Told m 
   held_then =
       ap (λ (f : Figures). f.held) till_then ∙ collect_held m n orderly facts.here ∙ sym (ap (λ (f : Figures). f.held) (till_of_house m))
 
-  owed_then : (till_of (house_of m)).owed ≡ (till_of (collected n (house_of m))).owed + won_by n log
+  owed_then : (till_of (house_of m)).owed ≡ (till_of (collected n (house_of m))).owed + (won_by n log + given_back n log)
   unfolding till_of
   owed_then =
       ap (λ (f : Figures). f.owed) (till_of_house m)
@@ -95,7 +99,7 @@ module _ (m : Model) (log : Log) (n : ℕ) (orderly : Orderly m) (told : Told m 
   kept_games : (g : ℕ) → member g (games_of (span_of n then)) ≡ (ltb g m.game && member g (games_of (span_of n log)))
   kept_games g =
       let s : Span = span_of n log in
-      ap (λ (s : Span). member g (games_of s)) (old_span m log n told accept)
+      ap (λ (s : Span). member g (games_of s)) (old_span m log n orderly told accept)
       ∙ span_has g (record { first = s.first; stop = min s.stop m.game })
       ∙ games_cut s.first s.stop m.game m.game g (λ low under. under) (λ low under. under)
       ∙ ap (λ b. ltb g m.game && b) (sym (span_has g s))
@@ -103,7 +107,7 @@ module _ (m : Model) (log : Log) (n : ℕ) (orderly : Orderly m) (told : Told m 
   reissued_games : (g : ℕ) → member g (games_of (span_of (m.issued + 1) then)) ≡ (leb m.game g && member g (games_of (span_of n log)))
   reissued_games g =
       let s : Span = span_of n log in
-      ap (λ (s : Span). member g (games_of s)) (new_span m log n told accept)
+      ap (λ (s : Span). member g (games_of s)) (new_span m log n orderly told accept)
       ∙ span_has g (record { first = m.game; stop = s.stop })
       ∙ go (leb m.game g) refl
       ∙ ap (λ b. leb m.game g && b) (sym (span_has g s))
@@ -125,7 +129,7 @@ module _ (m : Model) (log : Log) (n : ℕ) (orderly : Orderly m) (told : Told m 
             ∙ ap (λ cents. answer_of (replies (m.issued + 1) cents)) due.won;
         unpaid = due.unpaid;
         once =
-            number_collected (logged (collect n) 0) log n (collects m log n told accept) n
+            number_collected (logged (collect n) 0) log n (collects m log n orderly told accept) n
             ∙ ap₂ (λ here k. cond here (k + 1) k) (eq-eqb n n refl) due.unpaid;
         taken = refl;
         refunded = refl;
@@ -134,19 +138,13 @@ module _ (m : Model) (log : Log) (n : ℕ) (orderly : Orderly m) (told : Told m 
         owed = owed_then;
         kept = kept_games;
         reissued = reissued_games;
-        others = λ k g old new. ap (λ s. member g (games_of s)) (others_same m log n told accept k old new).span;
+        others = λ k g old new. ap (λ s. member g (games_of s)) (others_same m log n orderly told accept k old new).span;
         live = collected_live m n;
         operands = refl;
         free = refl;
         sold_day = refl;
         begun = λ long. rw (le-leb 50 _ long, lt-ltb _ m.game due.begun);
       }
-
--- the state after an accepted command
-next_accepted : (s : State) (c : Command) → (step s.house c).answer.code ≡ 0 → next s c ≡ record { house = act s.house c; log = logged c 0 ∷ s.log }
-unfolding next
-next_accepted s c accepted =
-    λ i. record { house = (accepted_done s.house c (accepted_code s.house c accepted)).0 i; log = logged c (accepted i) ∷ s.log }
 
 pub part_way : (cs : List Command) (n : ℕ) → (answer_after cs (collect n)).code ≡ 0 → CollectedPartWay n (run cs) (run (cs ++ (collect n ∷ [])))
 unfolding act

@@ -16,7 +16,7 @@ use Rattle.sale.specs.Price.{charge_limit, stake_fits}
 use Rattle.sale.specs.Checks.{Operands, first_met, marks_fit, feature_row, feature_stake_row, operand_rows, operand_code, way_count, charge_of}
 use Rattle.house.specs.Tickets.{is_finished, keno_to_go_begun}
 use Rattle.house.specs.Model.{Model, game_limit, live_limit, ticket_limit, is_drawing, next_game}
-use Rattle.house.specs.Commands.{sell, cancel, ball, claim, transfer, collect, ticket_at, has_ticket, cancel_stop, rows_of, code_of}
+use Rattle.house.specs.Commands.{sell, cancel, ball, claim, transfer, collect, call_off, ticket_at, has_ticket, cancel_stop, rows_of, code_of}
 use Rattle.house.proofs.Ledger.{All}
 
 -- ---- Bool tests
@@ -161,6 +161,10 @@ pub record CollectAccepted (m : Model) (n : ℕ) : Type 0 where
   pub due : (ticket_at n m.live).due ≡ 0 → ⊥
   pub numbered : m.issued < ticket_limit
 
+pub record CallOffAccepted (m : Model) : Type 0 where
+  pub opened : m.day ≡ 0 → ⊥
+  pub game : m.game ≤ game_limit
+
 pub record TransferAccepted (m : Model) (j cents : ℕ) : Type 0 where
   pub opened : m.day ≡ 0 → ⊥
   pub jackpot : (j ≡ 6) ⊎ (j ≡ 8)
@@ -244,6 +248,12 @@ collect_accepted m n e =
       due = eqb-false _ _ p.1.1.1.1.0;
       numbered = leb-false _ _ p.1.1.1.1.1.0;
     }
+
+pub call_off_accepted : (m : Model) → code_of m call_off ≡ 0 → CallOffAccepted m
+unfolding code_of rows_of
+call_off_accepted m e =
+    let p = all_passed (rows_of m call_off) (omega arith) e in
+    record { opened = eqb-false _ _ p.0; game = ltb-false _ _ p.1.0 }
 
 six_or_eight : (j : ℕ) → (eqb j 6 ≡ true) ⊎ (eqb j 8 ≡ true) → (j ≡ 6) ⊎ (j ≡ 8)
 six_or_eight j (inl e) = inl (eqb-true j 6 e)

@@ -12,7 +12,7 @@ use Rattle.house.specs.Tickets.{Ticket, is_live, paid_stakes, held_for, with_sto
 use Rattle.house.specs.Model.{Model, next_game}
 use Rattle.house.specs.Commands.{Command, sell, cancel, ball, claim, replies, ticket_at, still_live, running_in, cancel_stop, cancelled_ticket, code_of, refund_of, sold, cancelled, game_settled, ball_entered, claimed, act, reply, answer_of, step}
 use Rattle.house.specs.Till.{till_of}
-use Rattle.house.specs.Claims.{sheet_of, game_of, games_of, span_of, won_by, payments}
+use Rattle.house.specs.Claims.{sheet_of, game_of, games_of, span_of, won_by, given_back, payments}
 use Rattle.house.specs.Balance.{run, answer_after, Reached, Balanced}
 use Rattle.house.proofs.Ledger.{house_of}
 use Rattle.house.proofs.Refusals.{cancel_accepted}
@@ -133,12 +133,12 @@ draw_hand cs b ok =
 
 -- ---- "Cashiers pay what a claim says, and rely on it being everything that ticket won."
 
--- an accepted claim answers everything that the ticket's drawn games won, and the ticket was not paid before
+-- an accepted claim answers everything that the ticket's drawn games won, with what it paid for those that were called off, and the ticket was not paid before
 pub cashiers :
     (cs : List Command) (n : ℕ)
     → (answer_after cs (claim n)).code ≡ 0
-    → (answer_after cs (claim n) ≡ answer_of (replies n (won_by n (run cs).log)))
-    × ((step (run cs).house (claim n)).house.counters.paid ≡ (run cs).house.counters.paid + won_by n (run cs).log)
+    → (answer_after cs (claim n) ≡ answer_of (replies n (won_by n (run cs).log + given_back n (run cs).log)))
+    × ((step (run cs).house (claim n)).house.counters.paid ≡ (run cs).house.counters.paid + (won_by n (run cs).log + given_back n (run cs).log))
     × (payments n (run cs).log ≡ 0)
 unfolding act reply claimed
 cashiers cs n ok =
@@ -146,8 +146,8 @@ cashiers cs n ok =
     let b = booked cs in
     let e = accepted_code m (claim n) ok in
     let done = accepted_done m (claim n) e in
-    let due = claim_due b.ledger (run cs).log n b.told (sym (ap (λ h. code_of h (claim n)) b.house) ∙ e) in
-    let won : (ticket_at n m.live).due ≡ won_by n (run cs).log = ap (λ (h : Model). (ticket_at n h.live).due) b.house ∙ due.0 in (
+    let due = claim_due b.ledger (run cs).log n b.orderly b.told (sym (ap (λ h. code_of h (claim n)) b.house) ∙ e) in
+    let won : (ticket_at n m.live).due ≡ won_by n (run cs).log + given_back n (run cs).log = ap (λ (h : Model). (ticket_at n h.live).due) b.house ∙ due.0 in (
       done.1 ∙ ap (λ cents. answer_of (replies n cents)) won,
       ap (λ h. h.counters.paid) done.0 ∙ ap (λ k. m.counters.paid + k) won,
       due.1,

@@ -9,12 +9,12 @@ use lib.ListN.{length, length-append, length-map}
 use Rattle.sale.specs.Lists.{sum}
 use Rattle.sale.specs.Checks.{Operands, charge_of}
 use Rattle.house.specs.Model.{Model, fresh}
-use Rattle.house.specs.Commands.{replies, sell, cancel, ball, claim, expire, transfer, collect, has_ticket, expiring, reply}
+use Rattle.house.specs.Commands.{replies, sell, cancel, ball, claim, expire, transfer, collect, call_off, has_ticket, expiring, reply}
 use Rattle.house.specs.Till.{till_of}
 use Rattle.house.specs.Sheet.{sheet_reply}
 use Rattle.house.specs.Balance.{Balanced}
 use Rattle.house.proofs.Ledger.{Orderly, house_of, line_of, sheet_for}
-use Rattle.house.proofs.SheetFigures.{cancel_total, claim_total, late_dues_lem, settlements_alike}
+use Rattle.house.proofs.SheetFigures.{cancel_total, claim_total, late_dues_lem, settlements_alike, stakes_alike}
 use Rattle.house.proofs.SheetSteps.{twentieth_alike}
 
 module _ (m : Model) (orderly : Orderly m) where
@@ -42,6 +42,10 @@ module _ (m : Model) (orderly : Orderly m) where
   unfolding reply sheet_reply
   collected_reply n here =
       ap₂ (λ n due. replies (n + 1) due) (orderly.issued ∙ sym (length-map m.live (line_of m.game))) (sym (claim_total m n orderly here))
+
+  pub called_off_reply : reply (house_of m) call_off ≡ sheet_reply (sheet_for m) call_off
+  unfolding reply sheet_reply
+  called_off_reply = ap (replies m.game) (sym (stakes_alike m orderly))
 
 pub expired_reply : (m : Model) → reply (house_of m) expire ≡ sheet_reply (sheet_for m) expire
 unfolding reply sheet_reply

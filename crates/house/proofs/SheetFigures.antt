@@ -87,7 +87,7 @@ one_ticket m n g orderly here =
     ap (λ ts. sum (map g ts)) (alone n (is_live m.game) 1 m.live orderly.numbers here) ∙ add-zero (g (ticket_at n (house_of m).live))
 
 -- the sheet's total of the lines of a number is the figure of the live ticket
-line_total : (m : Model) (n : ℕ) (f : Line → ℕ) (g : Ticket → ℕ) → Orderly m →
+pub line_total : (m : Model) (n : ℕ) (f : Line → ℕ) (g : Ticket → ℕ) → Orderly m →
     All (λ t. f (line_of m.game t) ≡ g t) m.live →
     has_ticket n (house_of m).live ≡ true →
     total_at n f (map (line_of m.game) m.live) ≡ g (ticket_at n (house_of m).live)
@@ -264,7 +264,7 @@ line_entry_lem game t kept =
     record {
       terms = (entry_of game t).terms;
       marks = t.operands.marks;
-      paid = stakes_of_game game t kept i;
+      paid = stakes_of_game game game t kept i;
       feature = (entry_of game t).feature;
     }
 

@@ -8,18 +8,18 @@ use native.Mathlib.Omega.{arith}
 use lib.Dec.{ltb, leb, eqb}
 use lib.ListN.{length, length-map}
 use borrow.Author.Tests.{ltb-true, ltb-false, lt-leb, le-leb, le-ltb, lt-ltb, eqb-true, eqb-false, eq-eqb, ne_eqb}
-use Rattle.sale.specs.Lists.{keep}
+use Rattle.sale.specs.Lists.{keep, member}
 use Rattle.sale.specs.Checks.{Operands}
 use Rattle.calendar.specs.Calendar.{has_expired}
 use Rattle.house.specs.Tickets.{Ticket, runs_in, games_left, paid_stakes, is_finished, is_live, with_due, with_stop, with_finished_day}
 use Rattle.house.specs.Model.{Model, is_drawing, next_game}
-use Rattle.house.specs.Commands.{ticket_at, has_ticket, sold_ticket, changed, still_live, cancel_stop, cancelled_ticket, finished_on, awarded, is_expired, collected_ticket, reissued_ticket}
-use Rattle.house.specs.Sheet.{Line, games_from, stakes_of, left_with, due_with, on_line, new_line, stays, taken_off, settle_lines, too_late, reissued_line}
-use Rattle.house.proofs.Ledger.{All, Kept, Orderly, house_of, collected_ledger, line_of, sheet_for}
+use Rattle.house.specs.Commands.{ticket_at, has_ticket, sold_ticket, changed, still_live, cancel_stop, cancelled_ticket, finished_on, stakes_paid, awarded, is_expired, collected_ticket, reissued_ticket}
+use Rattle.house.specs.Sheet.{Line, games_from, stakes_of, left_with, due_with, on_line, new_line, stays, taken_off, settle_lines, too_late, reissued_line, called_off_line}
+use Rattle.house.proofs.Ledger.{All, Kept, Orderly, house_of, ended_tickets, collected_ledger, line_of, sheet_for}
 use Rattle.house.proofs.MoneyLaws.{all_of, all_from, map_same, keep_map}
 use Rattle.house.proofs.Numbered.{found, alone}
-use Rattle.house.proofs.SpanLaws.{length_games, keep_games, keep_below, span_above, plays_left, idle_first, idle_left, drawn_left, stakes_of_line}
-use Rattle.house.proofs.LiveTickets.{closed_of, next_game_least}
+use Rattle.house.proofs.SpanLaws.{length_games, keep_games, keep_below, span_above, plays_left, idle_first, idle_left, drawn_left, stakes_of_line, stakes_of_game}
+use Rattle.house.proofs.LiveTickets.{closed_of, next_game_least, with_stake_back, called_off_tickets}
 
 -- ---- a line
 
@@ -341,3 +341,31 @@ module _ (day game : ℕ) where
           let rest : length awards ≡ length (keep (runs_in game) ts) = omega arith in
           λ i. settled_line t a kept.0 i ∷ fewer rest i
       go false idle some fewer all = λ i. idle_line t kept.0 idle i ∷ all some i
+
+-- ---- a game called off
+
+module _ (m : Model) where
+  -- a line with the game left is due its own stake, and has the game left no more
+  stake_line : (t : Ticket) → Kept m.game t →
+      cond (member m.game (line_of m.game t).left) (called_off_line (sheet_for m) (line_of m.game t)) (line_of m.game t)
+      ≡ line_of (m.game + 1) (finished_on m.day (m.game + 1) (with_stake_back m.game t))
+  stake_line t kept =
+      ap₂ (λ plays stake. cond plays (played_line m.day m.game t stake) (line_of m.game t)) (plays_left m.game t) (stakes_of_game m.game m.game t kept)
+      ∙ go (runs_in m.game t) refl
+    where
+      go : (plays : Bool) → runs_in m.game t ≡ plays →
+          cond plays (played_line m.day m.game t (paid_stakes m.game (m.game + 1) t)) (line_of m.game t)
+          ≡ line_of (m.game + 1)
+          (finished_on m.day (m.game + 1) (cond plays (with_due t (t.due + paid_stakes m.game (m.game + 1) t)) t))
+      go true plays = settled_line m.day m.game t (paid_stakes m.game (m.game + 1) t) kept
+      go false idle = idle_line m.day m.game t kept idle
+
+  pub called_off_lines : Orderly m →
+      map (λ l. cond (member m.game l.left) (called_off_line (sheet_for m) l) l) (map (line_of m.game) m.live)
+      ≡ map (line_of (m.game + 1)) (ended_tickets (stakes_paid (house_of m)) m)
+  called_off_lines orderly =
+      map-map (λ l. cond (member m.game l.left) (called_off_line (sheet_for m) l) l) (line_of m.game) m.live
+      ∙ map_same _ (λ t. line_of (m.game + 1) (finished_on m.day (m.game + 1) (with_stake_back m.game t))) m.live (all_from stake_line m.live orderly.tickets)
+      ∙ sym (map-map (λ t. line_of (m.game + 1) (finished_on m.day (m.game + 1) t)) (with_stake_back m.game) m.live)
+      ∙ sym (map-map (line_of (m.game + 1)) (finished_on m.day (m.game + 1)) (map (with_stake_back m.game) m.live))
+      ∙ ap (map (line_of (m.game + 1))) (sym (called_off_tickets m))

@@ -18,13 +18,13 @@ use Rattle.prizes.specs.Jackpots.{pooled}
 use Rattle.prizes.specs.Settle.{Settled}
 use Rattle.house.specs.Tickets.{Ticket, runs_in, is_finished, paid_stakes, held_for, entry_of}
 use Rattle.house.specs.Model.{Model, with_taken, with_paid, with_refunded, with_unclaimed, with_transferred, with_gained, with_lost, with_seeds}
-use Rattle.house.specs.Commands.{open', sell, cancel, ball, claim, expire, transfer, collect, ticket_at, has_ticket, opened, sold, sold_ticket, cancelled, balls_with, settles, settlement, running_in, stakes_drawn, awarded, finished_on, after_game, game_settled, ball_entered, claimed, expired, transferred, collected, with_primary}
+use Rattle.house.specs.Commands.{open', sell, cancel, ball, claim, expire, transfer, collect, call_off, ticket_at, has_ticket, opened, sold, sold_ticket, cancelled, balls_with, settles, settlement, running_in, stakes_paid, stakes_drawn, awarded, finished_on, after_game, game_settled, game_called_off, ball_entered, claimed, expired, transferred, collected, with_primary}
 use Rattle.house.specs.Till.{till_of}
-use Rattle.house.specs.Sheet.{Sheet, sheet_with, game_with, pools_with, on_figure, new_line, moved, sheet_open, sheet_sell, sheet_cancel, stakes_played, sheet_settlement, sheet_settle, sheet_ball, twentieth, sheet_claim, sheet_expire, sheet_transfer, sheet_collect, primary_with}
+use Rattle.house.specs.Sheet.{Sheet, sheet_with, game_with, pools_with, on_figure, new_line, moved, sheet_open, sheet_sell, sheet_cancel, stakes_played, sheet_settlement, sheet_settle, sheet_ball, twentieth, sheet_claim, sheet_expire, sheet_transfer, sheet_collect, sheet_call_off, primary_with}
 use Rattle.house.specs.Balance.{Balanced}
-use Rattle.house.proofs.Ledger.{Orderly, house_of, ended_tickets, cancelled_ledger, claimed_ledger, expired_ledger, collected_ledger, settled_ledger, line_of, sheet_for}
+use Rattle.house.proofs.Ledger.{Orderly, house_of, ended_tickets, cancelled_ledger, claimed_ledger, expired_ledger, collected_ledger, settled_ledger, called_off_ledger, line_of, sheet_for}
 use Rattle.house.proofs.MoneyLaws.{sum_snoc, sum_unmoved}
-use Rattle.house.proofs.SheetLines.{sold_line, cancelled_lines, claimed_lines, collected_lines, expired_lines, settled_lines}
+use Rattle.house.proofs.SheetLines.{sold_line, cancelled_lines, claimed_lines, collected_lines, expired_lines, settled_lines, called_off_lines}
 use Rattle.house.proofs.SheetFigures.{till_from, dues, stakes_held, sold_held, cancel_total, cancel_held, cancel_owed, claim_total, claim_owed, claim_held, collect_owed, collect_held, late_dues_lem, expire_owed, expire_held, finished_due, finished_held, awarded_owed, drawn_held, settlements_alike, stakes_alike}
 use Rattle.house.proofs.LiveTickets.{awarded_keeps, running_live}
 use Rattle.prizes.proofs.SettleLaws.{awards_count, awards_sum, pools_balance}
@@ -166,6 +166,34 @@ module _ (m : Model) (j cents : ℕ) where
   unfolding transferred till_of
   transferred_balance covered balance = omega (arith, balance, transferred_pooled)
 
+-- ---- the end of a game
+
+module _ (m : Model) (awards : List ℕ) where
+  -- its awards join what is owed
+  ended_owed : length awards ≡ length (keep (runs_in m.game) m.live) → dues (ended_tickets awards m) ≡ dues m.live + sum awards
+  ended_owed each =
+      sum_unmoved
+      (λ t. t.due)
+      (finished_on m.day (m.game + 1))
+      (finished_due m.day (m.game + 1))
+      (awarded m.game awards m.live)
+      ∙ awarded_owed m.game awards m.live each
+
+  -- and its paid stakes are held no more
+  ended_held : stakes_held m.game m.live ≡ stakes_held (m.game + 1) (ended_tickets awards m) + stakes_drawn (house_of m)
+  unfolding paid_stakes
+  ended_held =
+      drawn_held m.game m.live
+      ∙ ap₂ ◌+◌
+      (sym
+      (sum_unmoved
+      (held_for (m.game + 1))
+      (finished_on m.day (m.game + 1))
+      (finished_held m.day (m.game + 1) (m.game + 1))
+      (awarded m.game awards m.live)
+      ∙ ap sum (awarded_keeps (held_for (m.game + 1)) (λ t cents. refl) m.game awards m.live)))
+      (ap (λ ts. sum (map (paid_stakes m.game (m.game + 1)) ts)) (sym (running_live m.game m.live)))
+
 -- ---- Ball
 
 -- the twentieth ball on the sheet is the one that settles
@@ -195,28 +223,12 @@ module _ (m : Model) (b : ℕ) where
   settled_owed : dues tickets_then ≡ dues m.live + (result.prizes + result.shares)
   unfolding settlement
   settled_owed =
-      sum_unmoved
-      (λ t. t.due)
-      (finished_on m.day (m.game + 1))
-      (finished_due m.day (m.game + 1))
-      (awarded m.game result.awards m.live)
-      ∙ awarded_owed m.game result.awards m.live awards_given
+      ended_owed m result.awards awards_given
       ∙ ap (λ n. dues m.live + n)
       (awards_sum (draw_of (balls_with b m)) m.six m.eight (map (entry_of m.game) (running_in (house_of m))))
 
   settled_held : stakes_held m.game m.live ≡ stakes_held (m.game + 1) tickets_then + stakes_drawn (house_of m)
-  unfolding paid_stakes
-  settled_held =
-      drawn_held m.game m.live
-      ∙ ap₂ ◌+◌
-      (sym
-      (sum_unmoved
-      (held_for (m.game + 1))
-      (finished_on m.day (m.game + 1))
-      (finished_held m.day (m.game + 1) (m.game + 1))
-      (awarded m.game result.awards m.live)
-      ∙ ap sum (awarded_keeps (held_for (m.game + 1)) (λ t cents. refl) m.game result.awards m.live)))
-      (ap (λ ts. sum (map (paid_stakes m.game (m.game + 1)) ts)) (sym (running_live m.game m.live)))
+  settled_held = ended_held m result.awards
 
   settled_pools :
       pooled result.six + pooled result.eight + result.shares + result.repaid
@@ -255,3 +267,31 @@ module _ (m : Model) (b : ℕ) where
   pub earlier_sheet : settles b m ≡ false → moved (ball b) (sheet_for m) ≡ sheet_for (ball_entered b m)
   unfolding moved sheet_ball ball_entered till_of
   earlier_sheet early = rw (twentieth_alike m b, early)
+
+-- ---- a game called off
+
+module _ (m : Model) where
+  -- a stake for each ticket that runs
+  stakes_each : length (stakes_paid (house_of m)) ≡ length (keep (runs_in m.game) m.live)
+  stakes_each = length-map (running_in (house_of m)) (paid_stakes m.game (m.game + 1)) ∙ ap length (running_live m.game m.live)
+
+  -- what was held for the game is owed
+  pub called_off_owed : dues (ended_tickets (stakes_paid (house_of m)) m) ≡ dues m.live + stakes_drawn (house_of m)
+  called_off_owed = ended_owed m (stakes_paid (house_of m)) stakes_each
+
+  pub called_off_held : stakes_held m.game m.live ≡ stakes_held (m.game + 1) (ended_tickets (stakes_paid (house_of m)) m) + stakes_drawn (house_of m)
+  called_off_held = ended_held m (stakes_paid (house_of m))
+
+  pub called_off_sheet : Orderly m → moved call_off (sheet_for m) ≡ sheet_for (called_off_ledger m)
+  unfolding moved sheet_call_off on_figure game_called_off till_of
+  called_off_sheet orderly =
+      let stakes = stakes_alike m orderly in
+      λ i.
+      game_with (m.game + 1) []
+      (sheet_with (called_off_lines m orderly i)
+      (till_from m.counters ((ap (λ cents. dues m.live + cents) stakes ∙ sym called_off_owed) i) (taken_off_sum called_off_held stakes i) (till_of m).pooled)
+      (sheet_for m))
+
+  pub called_off_balance : Balanced (till_of m) → Balanced (till_of (called_off_ledger m))
+  unfolding game_called_off till_of
+  called_off_balance balance = omega (arith, balance, called_off_owed, called_off_held)

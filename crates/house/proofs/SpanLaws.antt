@@ -235,11 +235,12 @@ stakes_of_line game t kept a c =
     ∙ ap₂ charge (sym (price_kept t kept))
     (ap length (keep_below t.free a (c - a)) ∙ length_games a (min (c - a) (t.free - a)) ∙ games)
 
-pub stakes_of_game : (game : ℕ) (t : Ticket) → Kept game t → stakes_of (line_of game t) (game ∷ []) ≡ paid_stakes game (game + 1) t
+-- and for one game, the current one or another
+pub stakes_of_game : (game g : ℕ) (t : Ticket) → Kept game t → stakes_of (line_of game t) (g ∷ []) ≡ paid_stakes g (g + 1) t
 unfolding games_from
-stakes_of_game game t kept =
-    let one : 1 ≡ game + 1 - game = omega arith in
-    ap (λ n. stakes_of (line_of game t) (games_from game n)) one ∙ stakes_of_line game t kept game (game + 1)
+stakes_of_game game g t kept =
+    let one : 1 ≡ g + 1 - g = omega arith in
+    ap (λ n. stakes_of (line_of game t) (games_from g n)) one ∙ stakes_of_line game t kept g (g + 1)
 
 -- what a ticket holds before a game that is drawn and after it
 pub held_drawn : (game : ℕ) (t : Ticket) →

@@ -1,7 +1,7 @@
 -- Demand 3, proved: `till_balances`. Every state of a run has a ledger of all tickets ever sold, of which the house is the live part and the
 -- count sheet the lines; each command is followed from ledger to ledger, and what is claimed of the house and the sheet is read off.
 use mathlib.Core.Path.{◌≡◌, refl, sym, ap, subst, subst⁻¹, subst₂, ◌∙◌}
-use Prim.Native.Nat.{ℕ}
+use Prim.Native.Nat.{ℕ, ◌+◌}
 use mathlib.Core.Bool.{Bool, true, false}
 use mathlib.Core.List.{List, [], ◌∷◌, ◌++◌, map}
 use lib.Dec.{eqb}
@@ -11,7 +11,7 @@ use Rattle.house.specs.Model.{Model, fresh}
 use Rattle.house.specs.Commands.{Command, claim, collect, Answer, code_of, act, reply, answer_of, step, still_live, running_in}
 use Rattle.house.specs.Till.{till_of}
 use Rattle.house.specs.Sheet.{Sheet, playing, sheet_reply}
-use Rattle.house.specs.Claims.{Log, sheet_of, PlaysExactly, won_by}
+use Rattle.house.specs.Claims.{Log, sheet_of, PlaysExactly, won_by, given_back}
 use Rattle.house.specs.Balance.{State, next, run_from, run, Balanced, TillBalances, Reached}
 use Rattle.house.proofs.Ledger.{house_of, Orderly}
 use Rattle.house.proofs.OrderlyLedgers.{orderly_fresh}
@@ -119,16 +119,20 @@ module _ (h : Model) (log : Log) (c : Command) (b : Booked h log) (accepted : (s
       let same = answer_there ∙ ap answer_of agree in
       (ap (λ (a : Answer). a.number) same, ap (λ (a : Answer). a.cents) same)
 
-claim_in : (h : Model) (log : Log) (n : ℕ) (b : Booked h log) → (step h (claim n)).answer.code ≡ 0 → (step h (claim n)).answer.cents ≡ won_by n log
+claim_in : (h : Model) (log : Log) (n : ℕ) (b : Booked h log)
+    → (step h (claim n)).answer.code ≡ 0
+    → (step h (claim n)).answer.cents ≡ won_by n log + given_back n log
 claim_in h log n b accepted =
     ap (λ (a : Answer). a.cents) (answer_there h log (claim n) b accepted)
-    ∙ claim_pays b.ledger log n b.told (accepted_there h log (claim n) b (code_there h log (claim n) b accepted))
+    ∙ claim_pays b.ledger log n b.orderly b.told (accepted_there h log (claim n) b (code_there h log (claim n) b accepted))
 
-collect_in : (h : Model) (log : Log) (n : ℕ) (b : Booked h log) → (step h (collect n)).answer.code ≡ 0 → (step h (collect n)).answer.cents ≡ won_by n log
+collect_in : (h : Model) (log : Log) (n : ℕ) (b : Booked h log)
+    → (step h (collect n)).answer.code ≡ 0
+    → (step h (collect n)).answer.cents ≡ won_by n log + given_back n log
 unfolding reply
 collect_in h log n b accepted =
     ap (λ (a : Answer). a.cents) (answer_there h log (collect n) b accepted)
-    ∙ (collect_due b.ledger log n b.told (accepted_there h log (collect n) b (code_there h log (collect n) b accepted))).won
+    ∙ (collect_due b.ledger log n b.orderly b.told (accepted_there h log (collect n) b (code_there h log (collect n) b accepted))).won
 
 -- who plays in the current game of a booked house
 players_in : (h : Model) (log : Log) → Booked h log
@@ -169,11 +173,22 @@ reply_shown m c r short accepted =
     subst⁻¹ (λ (h : Model). Shown (reply h c)) b.house
     (f.shown short (figures_fit b.ledger b.bounded b.balanced) (figures_fit f.ledger f.bounded f.balanced))
 
--- one command more at the end of a list
+-- more commands at the end of a list
+pub run_on : (cs : List Command) (s : State) (more : List Command) → run_from s (cs ++ more) ≡ run_from (run_from s cs) more
+unfolding run_from
+run_on [] s more = refl
+run_on (c ∷ cs) s more = run_on cs (next s c) more
+
+-- and one
 pub run_more : (cs : List Command) (s : State) (c : Command) → run_from s (cs ++ (c ∷ [])) ≡ next (run_from s cs) c
 unfolding run_from
-run_more [] s c = refl
-run_more (k ∷ cs) s c = run_more cs (next s k) c
+run_more cs s c = run_on cs s (c ∷ [])
+
+-- the state after an accepted command
+pub next_accepted : (s : State) (c : Command) → (step s.house c).answer.code ≡ 0 → next s c ≡ record { house = act s.house c; log = logged c 0 ∷ s.log }
+unfolding next
+next_accepted s c accepted =
+    λ i. record { house = (accepted_done s.house c (accepted_code s.house c accepted)).0 i; log = logged c (accepted i) ∷ s.log }
 
 -- a command keeps a house reached
 pub reached_more : (cs : List Command) (s : State) (c : Command) → (run_from s (cs ++ (c ∷ []))).house ≡ (step (run_from s cs).house c).house

@@ -1,36 +1,35 @@
 -- What the log tells of the ledger: the sheet, the progress of the games, in which games each ticket runs, and that its due is everything its drawn
--- games won until a payment, a collection or an expiry moves the due, which happens once. Each command, refused or accepted, keeps it so.
+-- games won and its games called off give back, until a payment, a collection or an expiry moves the due, which happens once. Each command, refused or accepted,
+-- keeps it so: a ball and the end of a game in GamesTold, the others here.
 use Prim.Native.Nat.{ℕ, ◌+◌, ◌-◌, ◌≤◌, ◌<◌, min, max}
 use native.Mathlib.Omega.{arith}
-use mathlib.Core.Path.{◌≡◌, refl, sym, ◌∙◌, ap, subst, subst⁻¹}
+use mathlib.Core.Path.{◌≡◌, refl, sym, ◌∙◌, ap, ap₂, subst, subst⁻¹}
 use mathlib.Core.Bool.{Bool, true, false, cond, not, ◌&&◌}
 use mathlib.Core.Logic.{◌⊎◌, inl, inr}
-use mathlib.Core.List.{List, [], ◌∷◌, ◌++◌, map}
+use mathlib.Core.List.{List, [], ◌∷◌}
 use lib.Dec.{ltb, leb, eqb}
-use lib.ListN.{length, length-append, length-map}
-use borrow.Author.Tests.{le-leb, le-ltb, ltb-true, leb-true, eq-eqb, ne_eqb, eqb-true, eqb-false}
-use Rattle.prizes.specs.Hits.{draw_of}
+use lib.ListN.{length}
+use borrow.Author.Tests.{le-leb, le-ltb, ne_eqb, eqb-true, eqb-false}
 use Rattle.sale.specs.Lists.{sum, keep, member}
 use Rattle.sale.specs.Checks.{Operands}
-use Rattle.house.specs.Tickets.{Ticket, runs_in, games_left, is_finished, is_live, entry_of, with_due, with_stop, with_finished_day}
+use Rattle.house.specs.Tickets.{Ticket, games_left, paid_stakes, is_finished, is_live, with_due, with_stop, with_finished_day}
 use Rattle.house.specs.Model.{Model, fresh, next_game}
-use Rattle.house.specs.Commands.{Command, open', sell, cancel, ball, claim, expire, transfer, collect, code_of, reply, opened, sold, cancelled, claimed, expired, transferred, still_live, changed, cancel_stop, is_expired, ticket_at, sold_ticket, cancelled_ticket, settles, ball_entered, game_settled, settlement, running_in, finished_on, has_ticket, collected_ticket, reissued_ticket, collected}
-use Rattle.house.specs.Sheet.{Sheet, Line, playing, sheet_settlement}
+use Rattle.house.specs.Commands.{Command, open', sell, cancel, claim, expire, transfer, collect, code_of, reply, opened, sold, cancelled, claimed, expired, transferred, still_live, changed, cancel_stop, is_expired, ticket_at, sold_ticket, cancelled_ticket, has_ticket, collected_ticket, reissued_ticket, collected}
+use Rattle.house.specs.Sheet.{Sheet, stakes_of, total_at}
 use Rattle.house.specs.Till.{till_of}
-use Rattle.house.specs.Claims.{Log, Logged, sheet_of, Effect, nothing, issues, takes_off, draws, reissues, effect_of, effect_in, Progress, nineteen_in, progress_after, progress_of, game_of, next_of, Span, games_of, span_of, award_at, won_by, payments_after, payments}
-use Rattle.house.proofs.Ledger.{house_of, cancelled_ledger, claimed_ledger, expired_ledger, collected_ledger, settled_ledger, line_of, sheet_for, All, Orderly}
-use Rattle.house.proofs.LiveTickets.{running_live, next_game_least}
+use Rattle.house.specs.Claims.{Log, Logged, sheet_of, Effect, nothing, issues, takes_off, reissues, effect_of, effect_in, Progress, progress_after, progress_of, game_of, next_of, Span, games_of, span_of, won_by, stake_in, given_back, payments_after, payments}
+use Rattle.house.proofs.Ledger.{house_of, cancelled_ledger, claimed_ledger, expired_ledger, collected_ledger, sheet_for, All, Orderly}
+use Rattle.house.proofs.LiveTickets.{next_game_least}
 use Rattle.house.proofs.ListLaws.{All-map, All-append}
-use Rattle.house.proofs.MoneyLaws.{all_from}
-use Rattle.house.proofs.SheetFigures.{settlements_alike}
+use Rattle.house.proofs.MoneyLaws.{all_of, all_from, map_same}
+use Rattle.house.proofs.SpanLaws.{stakes_of_game}
+use Rattle.house.proofs.SheetFigures.{line_total}
 use Rattle.house.proofs.Refusals.{and_true, ClaimAccepted, claim_accepted, CollectAccepted, collect_accepted}
 use Rattle.house.proofs.Numbered.{all_both, Within, row_within, found, only}
 use Rattle.house.proofs.RowLists.{earlier_or_not}
-use Rattle.house.proofs.AwardLaws.{awarded_at, awarded_by_number, playing_lines}
-use Rattle.house.proofs.LogLaws.{logged, and_false, span_has, games_cut, sheet_refused, effect_refused, SameTold, Untouched, untouched, nothing_won, award_now, issued_span, taken_off_lem, game_drawn, number_paid, reissued_span, kept_span, number_collected}
-use Rattle.prizes.proofs.SettleLaws.{awards_count}
+use Rattle.house.proofs.LogLaws.{logged, and_false, span_has, games_cut, sheet_refused, effect_refused, SameTold, Untouched, untouched, gives_back, nothing_won, nothing_back, issued_span, taken_off_lem, number_paid, reissued_span, kept_span, number_collected}
 
--- a ticket's due: what it has won, and it was not paid; or nothing, since it was moved when no game was left
+-- a ticket's due: what it has won and is given back, and it was not paid; or nothing, since it was moved when no game was left
 pub data Dues (due won left paid : ℕ) : Type 0 where
   owed : due ≡ won → paid ≡ 0 → Dues due won left paid
   moved : due ≡ 0 → left ≡ 0 → Dues due won left paid
@@ -39,15 +38,23 @@ pub data Dues (due won left paid : ℕ) : Type 0 where
 abbrev pub RunsBy : ℕ → Span → ℕ → ℕ → Type 0
 RunsBy game s first stop = (g : ℕ) → game ≤ g → (leb first g && ltb g stop) ≡ member g (games_of s)
 
--- what the log tells of a ticket where the given game is the current one
-pub record Follows (game : ℕ) (log : Log) (number first stop due : ℕ) : Type 0 where
+-- what a number with such stakes, game by game, has won and is given back
+abbrev pub earned : (ℕ → ℕ) → ℕ → Log → ℕ
+earned stakes n log = won_by n log + gives_back stakes n log
+
+-- what the log tells of a ticket where the given game is the current one; its stakes are those that it pays, game by game
+pub record Follows (game : ℕ) (log : Log) (number first stop due : ℕ) (stakes : ℕ → ℕ) : Type 0 where
   pub runs : RunsBy game (span_of number log) first stop
   -- a ticket begins no later than its span, before which it wins nothing; one that was reissued begins earlier
   pub begins : first ≤ (span_of number log).first
-  pub dues : Dues due (won_by number log) (stop - max first game) (payments number log)
+  pub dues : Dues due (earned stakes number log) (stop - max first game) (payments number log)
+
+-- what a ticket pays for a game
+abbrev pub stakes_by : Ticket → ℕ → ℕ
+stakes_by t g = paid_stakes g (g + 1) t
 
 abbrev pub TicketTold : ℕ → Log → Ticket → Type 0
-TicketTold game log t = Follows game log t.number t.first t.stop t.due
+TicketTold game log t = Follows game log t.number t.first t.stop t.due (stakes_by t)
 
 abbrev pub progress_for : Model → Progress
 progress_for m = record { game = m.game; balls = length m.balls; issued = m.issued }
@@ -67,24 +74,24 @@ told_fresh = record { sheet = refl; progress = refl; tickets = tt; once = λ n. 
 
 -- ---- a ticket of which the log tells the same after one command more
 
-follows_same : {game : ℕ} {before log : Log} {number first stop due : ℕ}
+follows_same : {game : ℕ} {before log : Log} {number first stop due : ℕ} {stakes : ℕ → ℕ}
     → SameTold number before log
-    → Follows game before number first stop due
-    → Follows game log number first stop due
-follows_same {game} {before} {log} {number} {first} {stop} {due} same f =
+    → Follows game before number first stop due stakes
+    → Follows game log number first stop due stakes
+follows_same {game} {before} {log} {number} {first} {stop} {due} {stakes} same f =
     record {
       runs = subst⁻¹ (λ (s : Span). RunsBy game s first stop) same.span f.runs;
       begins = subst⁻¹ (λ (s : Span). first ≤ s.first) same.span f.begins;
       dues = go f.dues;
     }
   where
-    go : Dues due (won_by number before) (stop - max first game) (payments number before)
-        → Dues due (won_by number log) (stop - max first game) (payments number log)
-    go (owed is none) = owed (is ∙ sym same.won) (same.paid ∙ none)
+    go : Dues due (earned stakes number before) (stop - max first game) (payments number before)
+        → Dues due (earned stakes number log) (stop - max first game) (payments number log)
+    go (owed is none) = owed (is ∙ sym (ap₂ ◌+◌ same.won (same.given stakes))) (same.paid ∙ none)
     go (moved is none) = moved is none
 
 -- the same of every ticket
-tickets_same : (game : ℕ) (before log : Log) (ts : List Ticket)
+pub tickets_same : (game : ℕ) (before log : Log) (ts : List Ticket)
     → ((n : ℕ) → SameTold n before log)
     → All (TicketTold game before) ts
     → All (TicketTold game log) ts
@@ -98,7 +105,7 @@ due_moved : (game : ℕ) (before log : Log) (t : Ticket) (goes : Bool)
     → (goes ≡ false → SameTold t.number before log)
     → TicketTold game before t
     → TicketTold game log (cond goes (with_due t 0) t)
-unfolding games_left
+unfolding games_left paid_stakes
 due_moved game before log t true span finished same f =
     record {
       runs = subst⁻¹ (λ (s : Span). RunsBy game s t.first t.stop) span f.runs;
@@ -156,7 +163,7 @@ module _ (m : Model) (log : Log) (told : Told m log) where
 -- ---- Open, Transfer and Expire
 
 -- a ledger after a command, told where the sheet is its sheet
-abbrev After : Log → Command → Model → Type 0
+abbrev pub After : Log → Command → Model → Type 0
 After log c after = sheet_of (logged c 0 ∷ log) ≡ sheet_for after → Told after (logged c 0 ∷ log)
 
 pub told_open : (m : Model) (log : Log) (d : ℕ) → Told m log → After log (open' d) (opened d m)
@@ -181,21 +188,43 @@ told_expire m log told sheet =
 
 -- ---- Claim
 
--- of a live ticket that is due something: that is everything it won, it was not paid before, and it is begun
+-- what a live ticket pays for a game is what its line pays
+stake_told : (m : Model) (log : Log) (n g : ℕ)
+    → Orderly m
+    → Told m log
+    → has_ticket n (house_of m).live ≡ true
+    → stake_in n g log ≡ stakes_by (ticket_at n (house_of m).live) g
+unfolding stake_in
+stake_told m log n g orderly told here =
+    ap (λ (s : Sheet). total_at n (λ l. stakes_of l (g ∷ [])) s.lines) told.sheet
+    ∙ line_total m n (λ l. stakes_of l (g ∷ [])) (λ t. stakes_by t g) orderly
+    (all_from (stakes_of_game m.game g) m.live orderly.tickets) here
+
+-- so that is what it is given back
+line_back : (m : Model) (log : Log) (n : ℕ)
+    → Orderly m
+    → Told m log
+    → has_ticket n (house_of m).live ≡ true
+    → gives_back (stakes_by (ticket_at n (house_of m).live)) n log ≡ given_back n log
+unfolding given_back
+line_back m log n orderly told here =
+    ap sum (map_same (stakes_by (ticket_at n (house_of m).live)) (λ g. stake_in n g log) _ (all_of (λ g. sym (stake_told m log n g orderly told here)) _))
+
+-- of a live ticket that is due something: that is everything it won and is given back, it was not paid before, and it is begun
 pub record DueTold (game : ℕ) (log : Log) (n : ℕ) (t : Ticket) : Type 0 where
-  pub won : t.due ≡ won_by n log
+  pub won : t.due ≡ won_by n log + given_back n log
   pub unpaid : payments n log ≡ 0
   pub begun : t.first < game
   pub span_begun : (span_of n log).first < game
 
 pub due_told : (m : Model) (log : Log) (n : ℕ)
+    → Orderly m
     → Told m log
     → has_ticket n (house_of m).live ≡ true
     → ((ticket_at n (house_of m).live).due ≡ 0 → ⊥)
     → DueTold m.game log n (ticket_at n (house_of m).live)
 unfolding still_live
-due_told m log n told has due =
-    subst (λ (k : ℕ). DueTold m.game log k t) here.1 (go here.0.dues (earlier_or_not (span_of t.number log).first m.game))
+due_told m log n orderly told has due = go dues' (earlier_or_not (span_of n log).first m.game)
   where
     t : Ticket
     t = ticket_at n (keep (is_live m.game) m.live)
@@ -203,29 +232,41 @@ due_told m log n told has due =
     here : TicketTold m.game log t × (t.number ≡ n)
     here = found n (TicketTold m.game log) (is_live m.game) m.live told.tickets has
 
-    go : Dues t.due (won_by t.number log) (t.stop - max t.first m.game) (payments t.number log)
-        → ((span_of t.number log).first < m.game) ⊎ (m.game ≤ (span_of t.number log).first)
-        → DueTold m.game log t.number t
-    go (owed is none) (inl earlier) = record { won = is; unpaid = none; begun = omega (arith, here.0.begins); span_begun = earlier }
-    go (owed is none) (inr later) = absurd (due (is ∙ nothing_won t.number log (omega (arith, game_told m log told))))
+    follows : Follows m.game log n t.first t.stop t.due (stakes_by t)
+    follows = subst (λ (k : ℕ). Follows m.game log k t.first t.stop t.due (stakes_by t)) here.1 here.0
+
+    dues' : Dues t.due (won_by n log + given_back n log) (t.stop - max t.first m.game) (payments n log)
+    dues' =
+        subst (λ (cents : ℕ). Dues t.due (won_by n log + cents) (t.stop - max t.first m.game) (payments n log)) (line_back m log n orderly told has)
+        follows.dues
+
+    go : Dues t.due (won_by n log + given_back n log) (t.stop - max t.first m.game) (payments n log)
+        → ((span_of n log).first < m.game) ⊎ (m.game ≤ (span_of n log).first)
+        → DueTold m.game log n t
+    go (owed is none) (inl earlier) = record { won = is; unpaid = none; begun = omega (arith, follows.begins); span_begun = earlier }
+    go (owed is none) (inr later) =
+        let current : game_of log ≤ (span_of n log).first = omega (arith, game_told m log told) in
+        absurd (due (omega (arith, is, nothing_won n log current, sym (line_back m log n orderly told has), nothing_back n log current (stakes_by t))))
     go (moved is none) when = absurd (due is)
 
 -- so of the ticket that a claim is accepted for
 pub claim_due : (m : Model) (log : Log) (n : ℕ)
+    → Orderly m
     → Told m log
     → code_of (house_of m) (claim n) ≡ 0
-    → ((ticket_at n (house_of m).live).due ≡ won_by n log) × (payments n log ≡ 0)
-claim_due m log n told accept =
+    → ((ticket_at n (house_of m).live).due ≡ won_by n log + given_back n log) × (payments n log ≡ 0)
+claim_due m log n orderly told accept =
     let facts = claim_accepted (house_of m) n accept in
-    let due = due_told m log n told facts.here facts.due in
+    let due = due_told m log n orderly told facts.here facts.due in
     (due.won, due.unpaid)
 
 pub claim_pays : (m : Model) (log : Log) (n : ℕ)
+    → Orderly m
     → Told m log
     → code_of (house_of m) (claim n) ≡ 0
-    → (reply (house_of m) (claim n)).cents ≡ won_by n log
+    → (reply (house_of m) (claim n)).cents ≡ won_by n log + given_back n log
 unfolding reply
-claim_pays m log n told accept = (claim_due m log n told accept).0
+claim_pays m log n orderly told accept = (claim_due m log n orderly told accept).0
 
 -- a number that was not paid before is paid once
 paid_once : (e : Logged) (log : Log) (k n : ℕ)
@@ -270,7 +311,7 @@ told_claim m log n orderly told accept sheet =
           m.live
           (all_both (TicketTold m.game log) (λ t. t.number ≡ n → ticket_at n (house_of m).live ≡ t) m.live told.tickets
           (only n (is_live m.game) 1 m.live orderly.numbers facts.here));
-      once = λ k. paid_once (logged (claim n) 0) log n k (number_paid (logged (claim n) 0) log n k refl).2 (claim_due m log n told accept).1 (told.once k);
+      once = λ k. paid_once (logged (claim n) 0) log n k (number_paid (logged (claim n) 0) log n k refl).2 (claim_due m log n orderly told accept).1 (told.once k);
       unissued = λ k h.
           (untouched k log (logged (claim n) 0) (λ same. omega (arith, facts.issued))).paid ∙ told.unissued k h;
     }
@@ -288,17 +329,18 @@ sell_ticket m log o told =
     let e : Logged = logged (sell o) 0 in
     let number : ℕ = m.issued + 1 in
     let next : next_of log ≡ next_game m = next_told m log told in
+    let stakes : ℕ → ℕ = stakes_by (sold_ticket m o) in
     let span : span_of number (e ∷ log) ≡ record { first = next_game m; stop = next_game m + o.games } =
     issued_span e log o.games number refl (ap (λ (n : ℕ). n + 1) (issued_told m log told))
     ∙ (λ i. record { first = next i; stop = next i + o.games }) in
     let start : (span_of number (e ∷ log)).first ≡ next_game m = ap (λ (s : Span). s.first) span in
-    let won : won_by number (e ∷ log) ≡ 0 = nothing_won number (e ∷ log) (omega (arith, start, game_told m log told, next_game_least m)) in
+    let later : game_of (e ∷ log) ≤ (span_of number (e ∷ log)).first = omega (arith, start, game_told m log told, next_game_least m) in
     record {
       runs =
           subst⁻¹ (λ (s : Span). RunsBy m.game s (next_game m) (next_game m + o.games)) span
           (λ g from. sym (span_has g (record { first = next_game m; stop = next_game m + o.games })));
       begins = omega (arith, start);
-      dues = owed (sym won) (told.unissued number (omega arith));
+      dues = owed (omega (arith, nothing_won number (e ∷ log) later, nothing_back number (e ∷ log) later stakes)) (told.unissued number (omega arith));
     }
 
 pub told_sell : (m : Model) (log : Log) (o : Operands) → Orderly m → Told m log → After log (sell o) (sold o m)
@@ -326,9 +368,10 @@ told_sell m log o orderly told sheet =
 -- ---- Cancel
 
 -- the finishing day is not told
-finished_day_lem : (game : ℕ) (log : Log) (t : Ticket) (b : Bool) (day : ℕ)
+pub finished_day_lem : (game : ℕ) (log : Log) (t : Ticket) (b : Bool) (day : ℕ)
     → TicketTold game log t
     → TicketTold game log (cond b (with_finished_day t day) t)
+unfolding paid_stakes
 finished_day_lem game log t true day f = f
 finished_day_lem game log t false day f = f
 
@@ -348,6 +391,7 @@ cancel_ticket_here : (m : Model) (log : Log) (e : Logged) (t : Ticket)
     → effect_in e ≡ takes_off t.number
     → TicketTold m.game log t
     → TicketTold m.game (e ∷ log) (with_stop t (min t.stop (cancel_stop m t)))
+unfolding paid_stakes
 cancel_ticket_here m log e t told is f =
     let after = taken_off_lem e log t.number is in
     let before : Span = span_of t.number log in
@@ -358,13 +402,13 @@ cancel_ticket_here m log e t told is f =
           subst⁻¹ (λ (s : Span). RunsBy m.game s t.first (min t.stop (cancel_stop m t))) span
           (cut_alike m.game (next_game m) t.first t.stop before f.runs);
       begins = subst⁻¹ (λ (s : Span). t.first ≤ s.first) span f.begins;
-      dues = go after.1 after.2 f.dues;
+      dues = go (ap₂ ◌+◌ after.1 (after.2 (stakes_by t))) after.3 f.dues;
     }
   where
-    go : won_by t.number (e ∷ log) ≡ won_by t.number log
+    go : earned (stakes_by t) t.number (e ∷ log) ≡ earned (stakes_by t) t.number log
         → payments t.number (e ∷ log) ≡ payments t.number log
-        → Dues t.due (won_by t.number log) (t.stop - max t.first m.game) (payments t.number log)
-        → Dues t.due (won_by t.number (e ∷ log)) (min t.stop (cancel_stop m t) - max t.first m.game) (payments t.number (e ∷ log))
+        → Dues t.due (earned (stakes_by t) t.number log) (t.stop - max t.first m.game) (payments t.number log)
+        → Dues t.due (earned (stakes_by t) t.number (e ∷ log)) (min t.stop (cancel_stop m t) - max t.first m.game) (payments t.number (e ∷ log))
     go won paid (owed is none) = owed (is ∙ sym won) (paid ∙ none)
     go won paid (moved is none) = moved is (omega arith)
 
@@ -415,7 +459,7 @@ reissued_runs game first stop s begun runs g from =
     ∙ ap (λ b. b && ltb g s.stop) (le-leb s.first g (omega arith) ∙ sym (le-leb game g from))
     ∙ sym (span_has g (record { first = game; stop = s.stop }))
 
-module _ (m : Model) (log : Log) (n : ℕ) (told : Told m log) (accept : code_of (house_of m) (collect n) ≡ 0) where
+module _ (m : Model) (log : Log) (n : ℕ) (orderly : Orderly m) (told : Told m log) (accept : code_of (house_of m) (collect n) ≡ 0) where
   abbrev collection : Logged
   collection = logged (collect n) 0
 
@@ -433,7 +477,7 @@ module _ (m : Model) (log : Log) (n : ℕ) (told : Told m log) (accept : code_of
   accepted = collect_accepted (house_of m) n accept
 
   pub collect_due : DueTold m.game log n old
-  collect_due = due_told m log n told accepted.here accepted.due
+  collect_due = due_told m log n orderly told accepted.here accepted.due
 
   -- the spans of the two numbers, and what is told of the others
   pub old_span : span_of n collected_log ≡ record { first = (span_of n log).first; stop = min (span_of n log).stop m.game }
@@ -462,19 +506,20 @@ module _ (m : Model) (log : Log) (n : ℕ) (told : Told m log) (accept : code_of
       ∙ told.unissued k later
 
   ended_ticket : (t : Ticket) → t.number ≡ n → TicketTold m.game log t → TicketTold m.game collected_log (collected_ticket m t)
+  unfolding paid_stakes
   ended_ticket t is f =
       let ended : Ticket = with_stop (with_due t 0) m.game in
       finished_day_lem m.game collected_log ended (is_finished m.game ended && eqb ended.finished_day 0) m.day
-      (subst⁻¹ (λ (k : ℕ). Follows m.game collected_log k t.first m.game 0) is
+      (subst⁻¹ (λ (k : ℕ). Follows m.game collected_log k t.first m.game 0 (stakes_by t)) is
       (record {
         runs = subst⁻¹ (λ (s : Span). RunsBy m.game s t.first m.game) old_span (ended_runs m.game t.first (span_of n log));
         begins = subst⁻¹ (λ (s : Span). t.first ≤ s.first) old_span (subst (λ (k : ℕ). t.first ≤ (span_of k log).first) is f.begins);
         dues = moved refl (omega arith);
       }))
 
-  collected_at : (t : Ticket) → TicketTold m.game log t × Within 1 (1 + length m.live) t → Orderly m
+  collected_at : (t : Ticket) → TicketTold m.game log t × Within 1 (1 + length m.live) t
       → TicketTold m.game collected_log (cond (eqb t.number n) (collected_ticket m t) t)
-  collected_at t (f, within) orderly = go (eqb t.number n) refl
+  collected_at t (f, within) = go (eqb t.number n) refl
     where
       go : (here : Bool) → eqb t.number n ≡ here → TicketTold m.game collected_log (cond here (collected_ticket m t) t)
       go true here = ended_ticket t (eqb-true t.number n here) f
@@ -486,147 +531,30 @@ module _ (m : Model) (log : Log) (n : ℕ) (told : Told m log) (accept : code_of
       let number : ℕ = m.issued + 1 in
       let before : Span = span_of n log in
       let start : (span_of number collected_log).first ≡ m.game = ap (λ (s : Span). s.first) new_span in
+      let later : game_of collected_log ≤ (span_of number collected_log).first = omega (arith, start, game_after) in
       let here = found n (TicketTold m.game log) (is_live m.game) m.live told.tickets accepted.here in
       let runs : RunsBy m.game before old.first old.stop = subst (λ (k : ℕ). RunsBy m.game (span_of k log) old.first old.stop) here.1 here.0.runs in
       record {
         runs = subst⁻¹ (λ (s : Span). RunsBy m.game s old.first old.stop) new_span
             (reissued_runs m.game old.first old.stop before (omega (arith, collect_due.span_begun)) runs);
         begins = omega (arith, start, collect_due.begun);
-        dues = owed (sym (nothing_won number collected_log (omega (arith, start, game_after)))) (none_paid number (omega arith));
+        dues =
+            owed (omega (arith, nothing_won number collected_log later, nothing_back number collected_log later (stakes_by (reissued_ticket m old))))
+            (none_paid number (omega arith));
       }
 
-  pub told_collect : Orderly m → After log (collect n) (collected_ledger n m)
+  pub told_collect : After log (collect n) (collected_ledger n m)
   unfolding collected changed still_live effect_in effect_of progress_of progress_after
-  told_collect orderly sheet =
+  told_collect sheet =
       record {
         sheet = sheet;
         progress = ap (λ (p : Progress). progress_after p (reissues n)) told.progress;
         tickets =
             All-append (TicketTold m.game collected_log) (changed n (collected_ticket m) m.live) (reissued_ticket m old ∷ [])
             (All-map (λ t. TicketTold m.game log t × Within 1 (1 + length m.live) t) (TicketTold m.game collected_log)
-            (λ t. cond (eqb t.number n) (collected_ticket m t) t) (λ t h. collected_at t h orderly) m.live
+            (λ t. cond (eqb t.number n) (collected_ticket m t) t) collected_at m.live
             (all_both (TicketTold m.game log) (Within 1 (1 + length m.live)) m.live told.tickets (row_within 1 m.live orderly.numbers)))
             (new_ticket, tt);
         once = λ k. paid_once collection log n k (number_collected collection log n collects k) collect_due.unpaid (told.once k);
         unissued = λ k h. none_paid k (omega arith);
       }
-
--- ---- Ball
-
-abbrev with_ball : ℕ → Log → Log
-with_ball b log = logged (ball b) 0 ∷ log
-
-pub told_early : (m : Model) (log : Log) (b : ℕ)
-    → Told m log
-    → settles b m ≡ false
-    → After log (ball b) (ball_entered b m)
-unfolding ball_entered effect_in effect_of progress_of progress_after payments payments_after
-told_early m log b told early sheet =
-    let size : length (m.balls ++ (b ∷ [])) ≡ length m.balls + 1 = length-append m.balls (b ∷ []) in
-    let short : length (m.balls ++ (b ∷ [])) ≡ 20 → ⊥ = eqb-false (length (m.balls ++ (b ∷ []))) 20 early in
-    let waits : nineteen_in (progress_for m) ≡ false = ne_eqb (length m.balls) 19 (λ last. short (omega arith)) in
-    record {
-      sheet = sheet;
-      progress =
-          ap (λ (p : Progress). progress_after p (draws b)) told.progress
-          ∙ rw waits (λ i. record { game = m.game; balls = sym size i; issued = m.issued });
-      tickets =
-          tickets_same m.game log (with_ball b log) m.live
-          (λ n. untouched n log (logged (ball b) 0) (ap nineteen_in told.progress ∙ waits)) told.tickets;
-      once = told.once;
-      unissued = told.unissued;
-    }
-
--- a ticket at the twentieth ball
-settled_ticket : (m : Model) (log : Log) (e : Logged) (b : ℕ) (lines : List Line) (awards : List ℕ) (t : Ticket)
-    → effect_in e ≡ draws b
-    → game_of log ≡ m.game
-    → nineteen_in (progress_of log) ≡ true
-    → award_now b t.number log ≡ award_at t.number lines awards
-    → TicketTold m.game log t
-    → TicketTold (m.game + 1) (e ∷ log) (awarded_at m.game lines awards t)
-unfolding runs_in
-settled_ticket m log e b lines awards t is game last award f = go (runs_in m.game t) refl won f.dues
-  where
-    cents : ℕ
-    cents = award_at t.number lines awards
-
-    after : (span_of t.number (e ∷ log) ≡ span_of t.number log)
-        × (won_by t.number (e ∷ log)
-        ≡ won_by t.number log + cond (member (game_of log) (games_of (span_of t.number log))) (award_now b t.number log) 0)
-        × (payments t.number (e ∷ log) ≡ payments t.number log)
-    after = game_drawn e log b t.number is last
-
-    won : won_by t.number (e ∷ log) ≡ won_by t.number log + cond (leb t.first m.game && ltb m.game t.stop) cents 0
-    won =
-        after.1
-        ∙ (λ i. won_by t.number log + cond (member (game i) (games_of (span_of t.number log))) (award i) 0)
-        ∙ ap (λ (runs : Bool). won_by t.number log + cond runs cents 0) (sym (f.runs m.game (omega arith)))
-
-    later : RunsBy (m.game + 1) (span_of t.number (e ∷ log)) t.first t.stop
-    later = subst⁻¹ (λ (s : Span). RunsBy (m.game + 1) s t.first t.stop) after.0 (λ g from. f.runs g (omega arith))
-
-    begins : t.first ≤ (span_of t.number (e ∷ log)).first
-    begins = subst⁻¹ (λ (s : Span). t.first ≤ s.first) after.0 f.begins
-
-    go : (runs : Bool)
-        → (leb t.first m.game && ltb m.game t.stop) ≡ runs
-        → won_by t.number (e ∷ log) ≡ won_by t.number log + cond runs cents 0
-        → Dues t.due (won_by t.number log) (t.stop - max t.first m.game) (payments t.number log)
-        → TicketTold (m.game + 1) (e ∷ log) (cond runs (with_due t (t.due + cents)) t)
-    go true runs more (owed is none) = record { runs = later; begins = begins; dues = owed (omega arith) (after.2 ∙ none) }
-    go true runs more (moved is none) =
-        let both = and_true _ _ runs in
-        let low : t.first ≤ m.game = leb-true t.first m.game both.0 in
-        let high : m.game < t.stop = ltb-true m.game t.stop both.1 in
-        absurd (omega arith)
-    go false idle more (owed is none) = record { runs = later; begins = begins; dues = owed (omega arith) (after.2 ∙ none) }
-    go false idle more (moved is none) = record { runs = later; begins = begins; dues = moved is (omega arith) }
-
--- as many awards as tickets of the ledger that run in the game
-award_count : (m : Model) (b : ℕ) → length (settlement b (house_of m)).awards ≡ length (keep (runs_in m.game) m.live)
-unfolding settlement
-award_count m b =
-    awards_count (draw_of (m.balls ++ (b ∷ []))) m.six m.eight (map (entry_of m.game) (running_in (house_of m)))
-    ∙ length-map (running_in (house_of m)) (entry_of m.game)
-    ∙ ap length (running_live m.game m.live)
-
-pub told_settled : (m : Model) (log : Log) (b : ℕ)
-    → Orderly m
-    → Told m log
-    → settles b m ≡ true
-    → After log (ball b) (settled_ledger b m)
-unfolding game_settled effect_in effect_of progress_of progress_after payments payments_after
-told_settled m log b orderly told last sheet =
-    let size : length (m.balls ++ (b ∷ [])) ≡ length m.balls + 1 = length-append m.balls (b ∷ []) in
-    let twenty : length (m.balls ++ (b ∷ [])) ≡ 20 = eqb-true (length (m.balls ++ (b ∷ []))) 20 last in
-    let completes : nineteen_in (progress_for m) ≡ true = eq-eqb (length m.balls) 19 (omega arith) in
-    record {
-      sheet = sheet;
-      progress = ap (λ (p : Progress). progress_after p (draws b)) told.progress ∙ rw completes;
-      tickets =
-          subst⁻¹ (λ (us : List Ticket). All after (map (finished_on m.day (m.game + 1)) us))
-          (awarded_by_number m.game 1 m.live orderly.numbers awards (award_count m b))
-          (All-map after after (finished_on m.day (m.game + 1))
-          (λ t. finished_day_lem (m.game + 1) (with_ball b log) t (is_finished (m.game + 1) t && eqb t.finished_day 0) m.day)
-          (map (awarded_at m.game lines awards) m.live)
-          (All-map (TicketTold m.game log) after (awarded_at m.game lines awards)
-          (λ t. settled_ticket m log (logged (ball b) 0) b lines awards t refl (game_told m log told) (ap nineteen_in told.progress ∙ completes)
-          (award t.number)) m.live told.tickets));
-      once = told.once;
-      unissued = told.unissued;
-    }
-  where
-    awards : List ℕ
-    awards = (settlement b (house_of m)).awards
-
-    lines : List Line
-    lines = map (line_of m.game) (keep (runs_in m.game) m.live)
-
-    after : Ticket → Type 0
-    after = TicketTold (m.game + 1) (with_ball b log)
-
-    award : (n : ℕ) → award_now b n log ≡ award_at n lines awards
-    award n =
-        ap (λ (s : Sheet). award_at n (playing s) (sheet_settlement b s).awards) told.sheet
-        ∙ (λ i. award_at n (playing_lines m.game m.live i) (settlements_alike m b orderly i).awards)

@@ -5,7 +5,7 @@ use Rattle.house.specs.Model.{Model, fresh}
 use Rattle.house.specs.Commands.{Command, ball, claim, collect, Answer, running_in, step}
 use Rattle.house.specs.Till.{Figures, till_of}
 use Rattle.house.specs.Sheet.{playing, sheet_reply}
-use Rattle.house.specs.Claims.{Log, sheet_of, payments, PlaysExactly, won_by}
+use Rattle.house.specs.Claims.{Log, sheet_of, payments, PlaysExactly, won_by, given_back}
 
 -- a house after some commands, with the log of them
 pub record State : Type 0 where
@@ -60,15 +60,16 @@ pub record TillBalances (cs : List Command) : Type 0 where
       × PlaysExactly (run before).log (map (λ l. l.number) (playing (sheet_of (run before).log)))
   -- "Each ticket number has at most one accepted claim." With Collect in the list: "each number is paid by at most one claim or one collection".
   pub once : (n : ℕ) → payments n (run cs).log ≤ 1
-  -- "That claim pays exactly the prizes, as cut, and the jackpot shares of the drawn games the ticket was sold for and had not cancelled."
+  -- "That claim pays exactly the prizes, as cut, and the jackpot shares of the drawn games the ticket was sold for and had not cancelled." And beside them the
+  -- paid stakes of those that were called off: "a ticket's claim or collection pays them beside its prizes".
   pub pays :
       (before after : List Command) (n : ℕ)
       → cs ≡ before ++ claim n ∷ after
       → (answer_after before (claim n)).code ≡ 0
-      → (answer_after before (claim n)).cents ≡ won_by n (run before).log
-  -- And a collection pays "exactly what its games drawn by then won".
+      → (answer_after before (claim n)).cents ≡ won_by n (run before).log + given_back n (run before).log
+  -- And a collection pays "exactly what its games drawn by then won", and the stakes of those called off by then.
   pub collects :
       (before after : List Command) (n : ℕ)
       → cs ≡ before ++ collect n ∷ after
       → (answer_after before (collect n)).code ≡ 0
-      → (answer_after before (collect n)).cents ≡ won_by n (run before).log
+      → (answer_after before (collect n)).cents ≡ won_by n (run before).log + given_back n (run before).log

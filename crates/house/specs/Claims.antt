@@ -1,12 +1,13 @@
 -- "A ticket is sold for its first game and those after it, as many as its Sell names. A game is drawn once its twentieth accepted ball is in."
 -- What the list of commands, and the code that each was answered with, tells of games, tickets and payments. It is told by the effects of the
 -- accepted commands: a ticket is issued for a span of games or has games taken off, the twentieth ball draws a game, the rule book says what the
--- game pays each ticket that runs in it, a ticket is paid what it has won, and a collected one's games left are reissued under the next number.
+-- game pays each ticket that runs in it, a game is called off and gives back what was paid for it, a ticket is paid what it has won and is given back, and a
+-- collected one's games left are reissued under the next number.
 use Rattle.std.specs.Prelude.{ℕ, ◌+◌, ◌-◌, min, ◌≡◌, Bool, false, cond, ◌&&◌, ◌||◌, List, [], ◌∷◌, map, eqb}
 use Rattle.sale.specs.Lists.{sum, keep, member}
-use Rattle.house.specs.Command.{Command, open', sell, cancel, ball, claim, expire, transfer, collect}
+use Rattle.house.specs.Command.{Command, open', sell, cancel, ball, claim, expire, transfer, collect, call_off}
 use Rattle.house.specs.Draws.{Different}
-use Rattle.house.specs.Sheet.{Sheet, Line, fresh_sheet, feed, playing, sheet_settlement, games_from}
+use Rattle.house.specs.Sheet.{Sheet, Line, fresh_sheet, feed, playing, sheet_settlement, stakes_of, total_at, games_from}
 
 -- a command and the code of its answer
 pub record Logged : Type 0 where
@@ -32,10 +33,12 @@ pub data Effect : Type 0 where
   takes_off : ℕ → Effect
   -- a ball of the current game
   draws : ℕ → Effect
-  -- all that a number has won
+  -- all that a number has won and is given back
   pays : ℕ → Effect
-  -- the same, and the games of that number that are not yet drawn go to a ticket under the next number
+  -- the same, and the games of that number that are not yet over go to a ticket under the next number
   reissues : ℕ → Effect
+  -- the current game, with its balls
+  drops : Effect
 
 unfoldable pub effect_of : Command → Effect
 effect_of (open' d) = nothing
@@ -46,6 +49,7 @@ effect_of (claim n) = pays n
 effect_of expire = nothing
 effect_of (transfer j cents) = nothing
 effect_of (collect n) = reissues n
+effect_of call_off = drops
 
 -- a refused command does nothing
 unfoldable pub effect_in : Logged → Effect
@@ -63,7 +67,7 @@ pub record Progress : Type 0 where
 abbrev pub nineteen_in : Progress → Bool
 nineteen_in p = eqb p.balls 19
 
--- the twentieth ball makes the next game current, without balls
+-- the twentieth ball makes the next game current, without balls, and so does a call-off
 unfoldable pub progress_after : Progress → Effect → Progress
 progress_after p nothing = p
 progress_after p (issues games) = record { game = p.game; balls = p.balls; issued = p.issued + 1 }
@@ -74,6 +78,7 @@ progress_after p (draws b) =
     (record { game = p.game; balls = p.balls + 1; issued = p.issued })
 progress_after p (pays k) = p
 progress_after p (reissues k) = record { game = p.game; balls = p.balls; issued = p.issued + 1 }
+progress_after p drops = record { game = p.game + 1; balls = 0; issued = p.issued }
 
 unfoldable pub progress_of : Log → Progress
 progress_of [] = record { game = 1; balls = 0; issued = 0 }
@@ -97,10 +102,25 @@ drawn_after g log before (takes_off k) = before
 drawn_after g log before (draws b) = drawn_next log g || before
 drawn_after g log before (pays k) = before
 drawn_after g log before (reissues k) = before
+drawn_after g log before drops = before
 
 unfoldable pub drawn : Log → ℕ → Bool
 drawn [] g = false
 drawn (e ∷ log) g = drawn_after g log (drawn log g) (effect_in e)
+
+-- which games were called off, with balls in or without
+unfoldable pub called_off_after : ℕ → Log → Bool → Effect → Bool
+called_off_after g log before nothing = before
+called_off_after g log before (issues games) = before
+called_off_after g log before (takes_off k) = before
+called_off_after g log before (draws b) = before
+called_off_after g log before (pays k) = before
+called_off_after g log before (reissues k) = before
+called_off_after g log before drops = eqb (game_of log) g || before
+
+unfoldable pub called_off : Log → ℕ → Bool
+called_off [] g = false
+called_off (e ∷ log) g = called_off_after g log (called_off log g) (effect_in e)
 
 -- ---- a ticket's games
 
@@ -126,6 +146,7 @@ span_after n log spans (reissues k) =
     cond (eqb ((progress_of log).issued + 1) n)
     (record { first = game_of log; stop = (spans k).stop })
     (cond (eqb k n) (record { first = (spans n).first; stop = min (spans n).stop (game_of log) }) (spans n))
+span_after n log spans drops = spans n
 
 unfoldable pub span_of : ℕ → Log → Span
 span_of n [] = record { first = 0; stop = 0 }
@@ -153,6 +174,7 @@ award_after n g log before (draws b) =
     cond (drawn_next log g) (award_at n (playing (sheet_of log)) (sheet_settlement b (sheet_of log)).awards) before
 award_after n g log before (pays k) = before
 award_after n g log before (reissues k) = before
+award_after n g log before drops = before
 
 unfoldable pub award_in : ℕ → ℕ → Log → ℕ
 award_in n g [] = 0
@@ -162,6 +184,14 @@ award_in n g (e ∷ log) = award_after n g log (award_in n g log) (effect_in e)
 unfoldable pub won_by : ℕ → Log → ℕ
 won_by n log = sum (map (λ g. award_in n g log) (keep (drawn log) (games_of (span_of n log))))
 
+-- what a number paid for a game, by its line on the sheet: nothing for one of its free games
+unfoldable pub stake_in : ℕ → ℕ → Log → ℕ
+stake_in n g log = total_at n (λ l. stakes_of l (g ∷ [])) (sheet_of log).lines
+
+-- and everything that a number is given back: what it paid for those of its games that were called off
+unfoldable pub given_back : ℕ → Log → ℕ
+given_back n log = sum (map (λ g. stake_in n g log) (keep (called_off log) (games_of (span_of n log))))
+
 -- how many accepted commands pay a number
 unfoldable pub payments_after : ℕ → ℕ → Effect → ℕ
 payments_after n before nothing = before
@@ -170,6 +200,7 @@ payments_after n before (takes_off k) = before
 payments_after n before (draws b) = before
 payments_after n before (pays k) = cond (eqb k n) (before + 1) before
 payments_after n before (reissues k) = cond (eqb k n) (before + 1) before
+payments_after n before drops = before
 
 unfoldable pub payments : ℕ → Log → ℕ
 payments n [] = 0

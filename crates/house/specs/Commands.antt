@@ -1,4 +1,4 @@
--- The nine commands: "Checked in this order [..] Top to bottom; the first met is given, and only then. A refusal answers its number, 0, 0 and
+-- The ten commands: "Checked in this order [..] Top to bottom; the first met is given, and only then. A refusal answers its number, 0, 0 and
 -- changes no house". Each command has its rows of the refusal table, what it does and what it answers; `step` puts them together.
 use Rattle.std.specs.Prelude.{ℕ, ◌+◌, min, max, Bool, cond, not, ◌&&◌, ◌||◌, List, [], ◌∷◌, ◌++◌, map, ltb, leb, eqb, length}
 use Rattle.sale.specs.Lists.{sum, keep, any, member}
@@ -13,7 +13,7 @@ use Rattle.std.specs.Prelude.{None}
 use Rattle.calendar.specs.Calendar.{has_expired}
 use Rattle.prizes.specs.declared.jackpot.Jackpot.{Jackpot}
 pub use Rattle.house.specs.declared.answer.Answer.{Answer}
-pub use Rattle.house.specs.Command.{Command, open', sell, cancel, ball, claim, expire, transfer, collect, Reply, replies}
+pub use Rattle.house.specs.Command.{Command, open', sell, cancel, ball, claim, expire, transfer, collect, call_off, Reply, replies}
 use Rattle.house.specs.Tickets.{Ticket, terms_of, runs_in, is_finished, is_live, paid_stakes, entry_of, keno_to_go_begun, with_number, with_due, with_stop, with_finished_day}
 use Rattle.house.specs.Model.{Model, Counters, ticket_limit, game_limit, live_limit, is_drawing, next_game, with_tickets, with_money, with_taken, with_seeds, with_paid, with_refunded, with_unclaimed, with_transferred, with_gained, with_lost}
 
@@ -94,6 +94,7 @@ rows_of m (collect n) =
     ∷ (eqb (ticket_at n m.live).due 0, 34)
     ∷ (leb ticket_limit m.issued, 35)
     ∷ [])
+rows_of m call_off = day_row m ∷ (ltb game_limit m.game, 26) ∷ []
 
 unfoldable pub code_of : Model → Command → ℕ
 code_of m c = first_met (rows_of m c)
@@ -193,9 +194,13 @@ settled_by draw m = settle draw m.six m.eight (map (entry_of m.game) (running_in
 unfoldable pub settlement : ℕ → Model → Settled
 settlement b m = settled_by (draw_of (balls_with b m)) m
 
+-- what each ticket that runs in the current game paid for it, its ways and its feature together: nothing in a free game
+abbrev pub stakes_paid : Model → List ℕ
+stakes_paid m = map (paid_stakes m.game (m.game + 1)) (running_in m)
+
 -- the paid stakes of the game that is drawn
 abbrev pub stakes_drawn : Model → ℕ
-stakes_drawn m = sum (map (paid_stakes m.game (m.game + 1)) (running_in m))
+stakes_drawn m = sum (stakes_paid m)
 
 -- seeds, and what the house gains and loses by a drawn game
 abbrev pub after_game : ℕ → Settled → Counters → Counters
@@ -211,7 +216,7 @@ unfoldable pub ball_entered : ℕ → Model → Model
 ball_entered b m =
     record { day = m.day; game = m.game; balls = balls_with b m; issued = m.issued; live = m.live; six = m.six; eight = m.eight; counters = m.counters }
 
--- Claim: everything the ticket won is paid, and it closes
+-- Claim: everything the ticket won and is given back is paid, and it closes
 unfoldable pub claimed : ℕ → Model → Model
 claimed n m =
     with_tickets m
@@ -268,6 +273,11 @@ collected n m =
       counters = with_paid t.due m.counters;
     }
 
+-- Call off: "drops the current game, its balls with it. Each live ticket that runs in it is due its paid stake for it, all its ways and any feature stake
+-- together; a free game gives nothing." So the game ends, and its awards are the stakes; pools and counters stand.
+unfoldable pub game_called_off : Model → Model
+game_called_off m = game_ended (stakes_paid m) m
+
 -- ---- each command: what it does, and the number and cents of its answer
 
 unfoldable pub act : Model → Command → Model
@@ -279,6 +289,7 @@ act m (claim n) = claimed n m
 act m expire = expired m
 act m (transfer j cents) = transferred j cents m
 act m (collect n) = collected n m
+act m call_off = game_called_off m
 
 unfoldable pub reply : Model → Command → Reply
 reply m (open' d) = replies d 0
@@ -290,6 +301,7 @@ reply m (claim n) = replies n (ticket_at n m.live).due
 reply m expire = replies (length (expiring m)) (sum (map (λ t. t.due) (expiring m)))
 reply m (transfer j cents) = replies j ((jackpot_for j m).primary + cents)
 reply m (collect n) = replies (m.issued + 1) (ticket_at n m.live).due
+reply m call_off = replies m.game (sum (stakes_paid m))
 
 -- ---- one command
 

@@ -14,7 +14,7 @@ use Rattle.prizes.specs.Jackpots.{guarantee_of_six, guarantee_of_eight, fresh_se
 use Rattle.prizes.specs.Settle.{Entry, Settled, settle}
 use Rattle.calendar.specs.Calendar.{has_expired}
 use Rattle.prizes.specs.declared.jackpot.Jackpot.{Jackpot}
-use Rattle.house.specs.Command.{Command, open', sell, cancel, ball, claim, expire, transfer, collect, Reply, replies}
+use Rattle.house.specs.Command.{Command, open', sell, cancel, ball, claim, expire, transfer, collect, call_off, Reply, replies}
 use Rattle.house.specs.Figures.{Figures}
 
 pub record Line : Type 0 where
@@ -180,7 +180,7 @@ sheet_cancel n s =
 abbrev pub playing : Sheet → List Line
 playing s = keep (λ l. member s.game l.left) s.lines
 
--- the paid stakes of the game that is drawn
+-- the paid stakes of the current game
 abbrev pub stakes_played : Sheet → ℕ
 stakes_played s = sum (map (λ l. stakes_of l (s.game ∷ [])) (playing s))
 
@@ -267,6 +267,20 @@ sheet_collect n s =
     (moves owed paid (total_at n (λ l. l.due) s.lines) s.figures)
     s
 
+-- A game called off: a line with that game left is due "its paid stake for it, all its ways and any feature stake together; a free game gives nothing". Held
+-- loses these cents and owed gains them; the game is left no more, and the next is current, without balls.
+abbrev pub called_off_line : Sheet → Line → Line
+called_off_line s l =
+    left_with s.today (keep (λ g. not (eqb g s.game)) l.left) (due_with (l.due + stakes_of l (s.game ∷ [])) l)
+
+unfoldable pub sheet_call_off : Sheet → Sheet
+sheet_call_off s =
+    game_with (s.game + 1) []
+    (sheet_with
+    (map (λ l. cond (member s.game l.left) (called_off_line s l) l) s.lines)
+    (moves held owed (stakes_played s) s.figures)
+    s)
+
 -- ---- a command and its code
 
 unfoldable pub moved : Command → Sheet → Sheet
@@ -278,6 +292,7 @@ moved (claim n) s = sheet_claim n s
 moved expire s = sheet_expire s
 moved (transfer j cents) s = sheet_transfer j cents s
 moved (collect n) s = sheet_collect n s
+moved call_off s = sheet_call_off s
 
 unfoldable pub feed : Sheet → Command → ℕ → Sheet
 feed s c code = cond (eqb code 0) (moved c s) s
@@ -293,3 +308,4 @@ sheet_reply s (claim n) = replies n (total_at n (λ l. l.due) s.lines)
 sheet_reply s expire = replies (length (late_dues s)) (sum (late_dues s))
 sheet_reply s (transfer j cents) = replies j (cond (eqb j 6) s.six.primary s.eight.primary + cents)
 sheet_reply s (collect n) = replies (length s.lines + 1) (total_at n (λ l. l.due) s.lines)
+sheet_reply s call_off = replies s.game (stakes_played s)

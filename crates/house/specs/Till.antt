@@ -1,6 +1,6 @@
 -- "Till: taken (charges), seeds, paid (claims), refunded (cancels), owed (prizes neither claimed nor expired), held (paid stakes of games
 -- neither drawn nor cancelled), unclaimed (expired less transferred), pooled (the six pools [..]), retained (signed [..])." With Collect "paid
--- includes collections, owed loses them".
+-- includes collections, owed loses them". And of a game called off "owed counts these dues, held loses them".
 use Rattle.std.specs.Prelude.{◌+◌, map}
 use Rattle.sale.specs.Lists.{sum}
 use Rattle.prizes.specs.Jackpots.{pooled}

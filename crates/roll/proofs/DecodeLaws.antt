@@ -108,6 +108,7 @@ rows_hold =
     and plain_row _ refl (λ _. refl) (omega arith)
     and plain_row _ refl (λ _. refl) (omega arith)
     and plain_row _ refl (λ _. refl) (omega arith)
+    and plain_row _ refl (λ _. refl) (omega arith)
     and tt
 
 row_found : (byte : ℕ) (row : CommandRow) → command_row byte ≡ known row → (row.byte ≡ byte) × RowHolds row

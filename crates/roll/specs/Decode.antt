@@ -1,14 +1,14 @@
 -- The table of commands: 01h "Open: day (2)"; 02h "Sell: kind (1), games (1), stake (4), groups (1), types (1), marks (80)"; 03h "Cancel: ticket (4)";
 -- 04h "Ball: number (1)"; 05h "Claim: ticket (4)"; 06h "Expire"; 07h "Transfer: jackpot 6 or 8 (1), cents (4)"; "Command 08h has Sell's operands and then
--- a feature stake (4 bytes)"; "Command 09h, Collect (ticket, 4 bytes)". And "writes 14 bytes each [..]: command byte, code (0 or the refusal), number (4), cents (8)".
+-- a feature stake (4 bytes)"; "Command 09h, Collect (ticket, 4 bytes)"; "Command 0Ah", which has none. And "writes 14 bytes each [..]: command byte, code (0 or the refusal), number (4), cents (8)".
 use Rattle.std.specs.Prelude.{ℕ, cond, Option, Some, None, List, [], ◌∷◌, ◌++◌, eqb, get_or, take, drop}
 use Rattle.numbers.specs.Bytes.{number_of, bytes_of}
 use Rattle.sale.specs.declared.terms.Sale.{Sale}
-use Rattle.house.specs.Commands.{open', sell, cancel, ball, claim, expire, transfer, collect}
+use Rattle.house.specs.Commands.{open', sell, cancel, ball, claim, expire, transfer, collect, call_off}
 use Rattle.house.specs.declared.answer.Answer.{Answer}
 use Rattle.commands.specs.Meant.{meant}
 use Rattle.commands.specs.declared.command.Command.{Command}
-use Rattle.commands.specs.declared.command.Command.TheVariants.{Open, Sell, Cancel, Ball, Claim, Expire, Transfer, Collect}
+use Rattle.commands.specs.declared.command.Command.TheVariants.{Open, Sell, Cancel, Ball, Claim, Expire, Transfer, Collect, CallOff}
 
 -- a sale's operands up to the marks, with a feature or without one
 abbrev pub sale_in : Option ℕ → List ℕ → Sale
@@ -48,6 +48,7 @@ command_rows =
     ∷ record { byte = 7; operands = 5; decoded = λ bytes. Transfer (get_or bytes 0 0) (number_of (drop 1 bytes)) }
     ∷ record { byte = 8; operands = 92; decoded = λ bytes. Sell (sale_in (feature_in bytes) bytes) }
     ∷ record { byte = 9; operands = 4; decoded = λ bytes. Collect (number_of bytes) }
+    ∷ record { byte = 10; operands = 0; decoded = λ bytes. CallOff }
     ∷ []
 
 -- what the table has for a byte
@@ -81,6 +82,7 @@ byte_of (claim n) = 5
 byte_of expire = 6
 byte_of (transfer j cents) = 7
 byte_of (collect n) = 9
+byte_of call_off = 10
 
 -- an answer's 14 bytes
 unfoldable pub record_of : ℕ → Answer → List ℕ

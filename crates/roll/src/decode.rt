@@ -42,7 +42,7 @@ fn lucky_last_at(operands: &[u8]) -> Sale
     sale_at(operands, Some(stake))
 }
 
-// How many operand bytes follow a command byte, where it is known. The bytes 1 to 9 stand as numbers in two matches, here and in `command_at`: an enum of
+// How many operand bytes follow a command byte, where it is known. The bytes 1 to 10 stand as numbers in two matches, here and in `command_at`: an enum of
 // them would be a third match, from bytes to it, and the row of each byte in `command_rows`, to which both are proved to agree, names it already.
 #[tactic(auto, unfolding(crate::specs::Decode::command_rows, crate::specs::Decode::row_among))]
 fn operand_bytes(byte: u8) -> Option<usize>
@@ -58,6 +58,7 @@ fn operand_bytes(byte: u8) -> Option<usize>
         7 => Some(5),
         8 => Some(92),
         9 => Some(4),
+        10 => Some(0),
         _ => None,
     }
 }
@@ -79,6 +80,7 @@ fn command_at(byte: u8, operands: &[u8]) -> Result<Command, Stop>
         7 => Ok(Command::Transfer(operands[0], read_number::<4>(operands, 1) as u32)),
         8 => Ok(Command::Sell(lucky_last_at(operands))),
         9 => Ok(Command::Collect(read_number::<4>(operands, 0) as u32)),
+        10 => Ok(Command::CallOff),
         _ => Err(Stop::UnknownByte),
     }
 }

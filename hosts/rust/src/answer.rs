@@ -63,6 +63,13 @@ pub enum Answer {
         /// What is paid.
         cents: u64,
     },
+    /// A game was called off.
+    CalledOff {
+        /// The game.
+        game: u32,
+        /// What was paid for it, which is due on its tickets now.
+        due: u64,
+    },
 }
 
 impl fmt::Display for Answer {
@@ -99,6 +106,9 @@ impl fmt::Display for Answer {
                     "{} is paid, the games left are ticket {ticket}'s",
                     dollars(cents)
                 )
+            }
+            Answer::CalledOff { game, due } => {
+                write!(formatter, "game {game} is called off, {} due", dollars(due))
             }
         }
     }
@@ -150,6 +160,7 @@ impl Record {
             6 => Answer::Expired { tickets: number, cents },
             7 => Answer::Transferred { jackpot: number, primary: cents },
             9 => Answer::Collected { ticket: number, cents },
+            10 => Answer::CalledOff { game: number, due: cents },
             _ => return None,
         };
         Some(Ok(answer))

@@ -14,6 +14,7 @@ const EXPIRE: u8 = 6;
 const TRANSFER: u8 = 7;
 const LUCKY_LAST: u8 = 8;
 const COLLECT: u8 = 9;
+const CALL_OFF: u8 = 10;
 
 /// A command with its operands, each as wide as on a roll. Nothing about them has
 /// been checked: the house refuses what is not in order.
@@ -26,7 +27,7 @@ pub enum Command {
     },
     /// Sells a ticket. With a feature stake it is the command Lucky Last.
     Sell(Sale),
-    /// Takes a ticket's undrawn games off, and pays them back.
+    /// Takes the games off that a ticket has left, and pays them back.
     Cancel {
         /// The ticket's number.
         ticket: u32,
@@ -75,6 +76,27 @@ pub enum Command {
         /// The ticket's number.
         ticket: u32,
     },
+    /// Drops the current game with its balls. What each ticket paid for it is due on it, and
+    /// the next game is current.
+    ///
+    /// ```
+    /// use wulipday::{Answer, Command, Kind, Lounge, Refusal, Sale};
+    ///
+    /// let mut lounge = Lounge::fresh();
+    /// lounge.give(&Command::Open { day: 1 })?;
+    /// // One number for one game at $1, and $2 on its being the last ball.
+    /// let sale = Sale::new(Kind::Standard, 1, 100).group(&[7]).lucky_last(200);
+    /// lounge.give(&Command::Sell(sale))?;
+    /// lounge.give(&Command::Ball { number: 7 })?;
+    /// let called_off = lounge.give(&Command::CallOff)?;
+    /// assert_eq!(called_off, Answer::CalledOff { game: 1, due: 300 });
+    /// // The ball may come again in game 2, and nobody is to come for a draw of game 1.
+    /// assert_eq!(lounge.give(&Command::Ball { number: 7 })?, Answer::BallIn { balls: 1 });
+    /// let claimed = lounge.give(&Command::Claim { ticket: 1 })?;
+    /// assert_eq!(claimed, Answer::Claimed { ticket: 1, paid: 300 });
+    /// # Ok::<(), Refusal>(())
+    /// ```
+    CallOff,
 }
 
 /// What a ticket is sold on.
@@ -224,6 +246,7 @@ impl Command {
             Command::Expire => EXPIRE,
             Command::Transfer { .. } => TRANSFER,
             Command::Collect { .. } => COLLECT,
+            Command::CallOff => CALL_OFF,
         }
     }
 
@@ -236,7 +259,7 @@ impl Command {
             LUCKY_LAST => Some(9 + NUMBERS + 4),
             CANCEL | CLAIM | COLLECT => Some(5),
             BALL => Some(2),
-            EXPIRE => Some(1),
+            EXPIRE | CALL_OFF => Some(1),
             TRANSFER => Some(6),
             _ => None,
         }
@@ -260,7 +283,7 @@ impl Command {
                 bytes.extend(ticket.to_be_bytes());
             }
             Command::Ball { number } => bytes.push(*number),
-            Command::Expire => {}
+            Command::Expire | Command::CallOff => {}
             Command::Transfer { jackpot, cents } => {
                 bytes.push(*jackpot);
                 bytes.extend(cents.to_be_bytes());
@@ -291,7 +314,8 @@ impl Command {
             TRANSFER => {
                 Command::Transfer { jackpot: operands[0], cents: four_bytes(&operands[1..]) }
             }
-            _ => Command::Collect { ticket: four_bytes(operands) },
+            COLLECT => Command::Collect { ticket: four_bytes(operands) },
+            _ => Command::CallOff,
         })
     }
 }
@@ -329,6 +353,7 @@ impl fmt::Display for Command {
             Command::Expire => write!(formatter, "expire"),
             Command::Transfer { jackpot, cents } => write!(formatter, "transfer {jackpot} {cents}"),
             Command::Collect { ticket } => write!(formatter, "collect {ticket}"),
+            Command::CallOff => write!(formatter, "call off"),
         }
     }
 }
@@ -383,6 +408,7 @@ mod tests {
             Command::Transfer { jackpot: 8, cents: u32::MAX },
             Command::Sell(sale.lucky_last(0xFEDC_BA98)),
             Command::Collect { ticket: 0x0A0B_0C0D },
+            Command::CallOff,
         ]
     }
 
@@ -395,7 +421,7 @@ mod tests {
             assert_eq!(Command::decode(&[bytes.clone(), vec![9]].concat()), Some(command));
             assert_eq!(Command::decode(&bytes[..bytes.len() - 1]), None);
         }
-        assert_eq!(Command::decode(&[10, 0, 0, 0, 0]), None);
+        assert_eq!(Command::decode(&[11, 0, 0, 0, 0]), None);
     }
 
     #[test]

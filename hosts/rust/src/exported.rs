@@ -84,9 +84,10 @@ pub struct Till {
     pub paid: u64,
     /// What cancels have paid back.
     pub refunded: u64,
-    /// Prizes and shares neither claimed, collected nor expired.
+    /// Prizes, shares and what was paid for games called off, neither claimed, collected nor
+    /// expired.
     pub owed: u64,
-    /// Paid stakes of games neither drawn nor taken off.
+    /// Paid stakes of games neither drawn, taken off nor called off.
     pub held: u64,
     /// Expired and not transferred.
     pub unclaimed: u64,

@@ -1,7 +1,7 @@
 //! A proved keno settlement core for hosts in Rust.
 //!
-//! The core sells, cancels, draws, settles, pays, reissues and expires tickets and answers
-//! the till to the cent. It is written in Rattle and proved correct; this crate
+//! The core sells, cancels, draws, settles, pays, reissues and expires tickets, calls games
+//! off, and answers the till to the cent. It is written in Rattle and proved correct; this crate
 //! links the static library that `rt lib` writes in crates/host, and is all that a
 //! host needs beside it. What commands mean stands in `docs/PROTOCOL.md`.
 //!

@@ -9,6 +9,7 @@
 //! expire
 //! transfer JACKPOT CENTS
 //! collect TICKET
+//! call off
 //! ```
 //!
 //! KIND is `standard`, `jackpot`, `special-one`, `special-two` or a number. With a
@@ -92,8 +93,13 @@ fn read_commands(line: &str) -> Result<Vec<Command>, String> {
         "expire" => vec![Command::Expire],
         "transfer" => vec![read_transfer(&mut words)?],
         "collect" => vec![Command::Collect { ticket: words.number("the ticket")? }],
+        "call" => {
+            words.expect("off")?;
+            vec![Command::CallOff]
+        }
         other => {
-            let expected = "open, sell, cancel, balls, claim, expire, transfer or collect";
+            let expected =
+                "open, sell, cancel, balls, claim, expire, transfer, collect or call off";
             return Err(format!("there is no command \"{other}\": expected {expected}"));
         }
     };

@@ -87,14 +87,15 @@ balls 7               # 4 0 1 0         1 ball is in
 cancel 1              # 3 0 1 100       ticket 1 is cancelled, $1.00 is refunded
 claim 1               # 5 23 0 0        refused: the ticket has games left to draw
 collect 1             # 9 34 0 0        refused: nothing is due on the ticket yet
+call off              # 10 0 1 400      game 1 is called off, $4.00 due
 
 till
   taken                       $5.00
   seeds                  $13,500.00
   paid                        $0.00
   refunded                    $1.00
-  owed                        $0.00
-  held                        $4.00
+  owed                        $4.00
+  held                        $0.00
   unclaimed                   $0.00
   pooled                 $13,500.00
   retained                    $0.00
@@ -116,7 +117,7 @@ fn run_says_what_each_command_did() {
     let in_words = "expire\nopen 1\nsell jackpot games 2 stake 100 groups 1,2,3,4,5,6 types 1\n\
                     sell standard games 1 stake 100 groups 8,9 types 1 feature 200\n\
                     sell jackpot games 1 stake 100 groups 8,9,10,11,12,13 types 1 feature 200\n\
-                    balls 7\ncancel 1\nclaim 1\ncollect 1\n";
+                    balls 7\ncancel 1\nclaim 1\ncollect 1\ncall off\n";
     let roll = words::encode(in_words).expect("commands");
     assert_eq!(text(prints(&["run", "--words"], in_words.as_bytes())), RUN);
     assert_eq!(text(prints(&["run"], &roll)), RUN);
@@ -143,18 +144,20 @@ fn run_of_the_sample_says_its_answers() {
         .map(|(_, said)| said.split_whitespace().take(4).collect::<Vec<_>>().join(" "))
         .collect();
     assert_eq!(said, answers.lines().collect::<Vec<_>>());
-    assert_eq!(till, "till 23950 1449985 5383025 11600 300 3600 0 1408620 -5333210\n");
-    assert!(print.contains("\n  retained              -$53,332.10\n"), "{print}");
+    assert_eq!(till, "till 34850 1449985 5396125 16500 600 8000 0 1408620 -5345010\n");
+    assert!(print.contains("\n  retained              -$53,450.10\n"), "{print}");
     assert!(print
         .contains("  # 4 0 20 5003600  20 balls are in, the game is drawn: $50,036.00 is won\n"));
     let collected = "  # 9 0 26 300      $3.00 is paid, the games left are ticket 26's\n";
     assert!(print.contains(collected), "{print}");
+    let called_off = "  # 10 0 18 600     game 18 is called off, $6.00 due\n";
+    assert!(print.contains(called_off), "{print}");
 }
 
 #[test]
 fn run_refuses_what_is_no_roll() {
     let _turn = turn();
-    let unknown = "standard input: byte 3: expected a command, 01 to 09, not 2A";
+    let unknown = "standard input: byte 3: expected a command, 01 to 0A, not 2A";
     refuses(&["run"], &[1, 0, 1, 42], unknown);
     let cut_off = "standard input: byte 3: expected 89 bytes of command 02, not 2";
     refuses(&["run"], &[1, 0, 1, 2, 0], cut_off);
@@ -178,7 +181,8 @@ fn replay_says_what_a_journal_tells() {
     let run = text(prints(&["run", SAMPLE], b""));
     let (_, tables) = run.split_once("\n\n").expect("tables");
     let bytes = 32 + 20 + roll.len();
-    let expected = format!("442 commands in {bytes} bytes\n\n{tables}\n2 live tickets\n  16 21\n");
+    let expected =
+        format!("481 commands in {bytes} bytes\n\n{tables}\n3 live tickets\n  16 21 32\n");
     assert_eq!(print, expected);
 
     // A torn tail is left where it is: a host will cut it.

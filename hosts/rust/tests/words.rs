@@ -55,6 +55,7 @@ fn every_command() {
         ("expire", vec![Command::Expire]),
         ("transfer 6 5000", vec![Command::Transfer { jackpot: 6, cents: 5_000 }]),
         ("collect 3 # part way", vec![Command::Collect { ticket: 3 }]),
+        ("call  off# an alarm", vec![Command::CallOff]),
         ("", vec![]),
         ("# open 1", vec![]),
     ];
@@ -70,7 +71,7 @@ fn bad_lines_are_named() {
     let rows = [
         (
             "opn 1",
-            "there is no command \"opn\": expected open, sell, cancel, balls, claim, expire, transfer or collect",
+            "there is no command \"opn\": expected open, sell, cancel, balls, claim, expire, transfer, collect or call off",
         ),
         ("open", "a number is missing: the day"),
         ("open 65536", "the day must be a number from 0 to 65535, not \"65536\""),
@@ -109,6 +110,9 @@ fn bad_lines_are_named() {
         ("transfer 6", "a number is missing: the cents"),
         ("collect", "a number is missing: the ticket"),
         ("collect 1 2", "\"2\" is one word too many"),
+        ("call", "\"off\" is missing"),
+        ("call 7", "\"off\" should stand where \"7\" does"),
+        ("call off 7", "\"7\" is one word too many"),
     ];
     for (line, reason) in rows {
         let text = format!("open 1\n\n{line}\nopen 2\n");

@@ -9,7 +9,7 @@ use reference::command::length;
 use reference::roll::{read_answer, ANSWER_BYTES};
 use reference::till::balances;
 use reference::{Cents, Command, CountSheet};
-use rolls::{collecting, lucky_last, mixed, odd_cents, scenarios};
+use rolls::{calling_off, collecting, lucky_last, mixed, odd_cents, scenarios};
 use side_by_side::{jackpot, reference_jackpot};
 use std::collections::HashSet;
 use wulipday::{Lounge, Stop};
@@ -71,6 +71,12 @@ fn the_sheet_after_every_command() {
     rolls.extend(collecting::in_a_row(1998));
     rolls.extend(collecting::two_hundred(1998));
     rolls.extend(collecting::jackpots(1998));
+    rolls.extend(mixed::often_called_off(1998, 40, 1_000));
+    rolls.extend(calling_off::moments(1998));
+    rolls.extend(calling_off::free_games(1998));
+    rolls.extend(calling_off::in_a_row(1998));
+    rolls.extend(calling_off::two_hundred(1998));
+    rolls.extend(calling_off::jackpots(1998));
     for roll in rolls {
         let mut count = Count::fresh();
         let mut unread = &roll[..];

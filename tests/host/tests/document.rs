@@ -1,7 +1,7 @@
 //! Document 01's printed roll and settled examples on the proved core alone,
 //! with the document's own figures, the dates of a year by the calendar, the last
-//! ball of a ticket with a feature, odd jackpot cents by stake, and a ticket that is
-//! collected part way.
+//! ball of a ticket with a feature, odd jackpot cents by stake, a ticket that is collected
+//! part way, and a game called off.
 
 use reference::roll::{read_answer, ANSWER_BYTES};
 use reference::{Answer, Command, Sale};
@@ -77,6 +77,10 @@ impl Desk {
 
     fn collect(&mut self, ticket: u32) -> Answer {
         self.give(Command::Collect { ticket })
+    }
+
+    fn call_off(&mut self) -> Answer {
+        self.give(Command::CallOff)
     }
 
     fn expire_on(&mut self, day: u16) -> Answer {
@@ -396,4 +400,85 @@ fn free_games_are_as_before() {
     assert_eq!(primary, 100_000 + 48 * 15);
     assert_eq!(desk.draw(), primary);
     assert_eq!(desk.claim(2), Answer::accepted(2, primary));
+}
+
+/// "Each live ticket that runs in it is due its paid stake for it, all its ways and any feature
+/// stake together." Held loses what owed gains, and nothing else moves.
+#[test]
+fn a_game_called_off() {
+    let mut desk = Desk::on_day_one();
+    let groups: [&[u8]; 3] = [&[1, 2], &[3, 4], &[79, 80]];
+    desk.give(Command::sell(0, 2, 50, &groups, 3));
+    desk.lucky_last(1, 100, 200, &[20]);
+    desk.straight(1, 700, &numbers(6, 0));
+    for number in 1..=19 {
+        desk.give(Command::Ball { number });
+    }
+    let (before, pools) = (desk.lounge.till(), desk.lounge.pools());
+    assert_eq!(desk.call_off(), Answer::accepted(1, 300 + 300 + 700));
+    assert_eq!(desk.lounge.till(), Till { owed: 1_300, held: before.held - 1_300, ..before });
+    assert_eq!(desk.lounge.pools(), pools);
+    assert_eq!(desk.claim(1), Answer::refused(23));
+    assert_eq!(desk.claim(2), Answer::accepted(2, 300));
+    assert_eq!(desk.claim(3), Answer::accepted(3, 700));
+    // Two of two twice, four of four, and two of four twice, at 50 cents.
+    assert_eq!(desk.draw(), 7_050);
+    assert_eq!(desk.claim(1), Answer::accepted(1, 300 + 7_050));
+    assert_eq!((desk.lounge.till().owed, desk.lounge.till().held), (0, 0));
+}
+
+/// "A free game gives nothing": after the last, a ticket with nothing due is closed.
+#[test]
+fn free_games_called_off() {
+    let mut desk = Desk::on_day_one();
+    desk.give(Command::sell(0, 100, 100, &[&[80]], 1));
+    desk.give(Command::sell(0, 99, 100, &[&[80]], 1));
+    (1..=97).for_each(|_game| assert_eq!(desk.draw(), 0));
+    for (game, due) in [(98, 200), (99, 0), (100, 0)] {
+        assert_eq!(desk.call_off(), Answer::accepted(game, due), "game {game}");
+    }
+    assert_eq!(desk.claim(1), Answer::accepted(1, 100));
+    assert_eq!(desk.claim(2), Answer::accepted(2, 100));
+    desk.give(Command::sell(0, 50, 100, &[&[80]], 1));
+    (1..=49).for_each(|_game| assert_eq!(desk.draw(), 0));
+    assert_eq!(desk.call_off(), Answer::accepted(150, 0));
+    assert_eq!(desk.claim(3), Answer::refused(19));
+}
+
+/// "A Keno To Go whose first game is called off counts as begun"; one that was sold while
+/// that game was being drawn does not. What is left of other tickets comes off.
+#[test]
+fn cancels_after_a_game_called_off() {
+    let mut desk = Desk::on_day_one();
+    for games in [50, 49] {
+        desk.give(Command::sell(0, games, 100, &[&[1]], 1));
+    }
+    desk.give(Command::Ball { number: 1 });
+    desk.give(Command::sell(0, 50, 100, &[&[1]], 1));
+    assert_eq!(desk.call_off(), Answer::accepted(1, 200));
+    let cancel = |ticket| Command::Cancel { ticket };
+    assert_eq!(desk.give(cancel(1)), Answer::refused(21));
+    assert_eq!(desk.give(cancel(2)), Answer::accepted(2, 4_800));
+    assert_eq!(desk.give(cancel(3)), Answer::accepted(3, 4_900));
+    assert_eq!(desk.give(cancel(2)), Answer::refused(22));
+    assert_eq!(desk.collect(1), Answer::accepted(4, 100));
+    assert_eq!(desk.give(cancel(4)), Answer::refused(21));
+}
+
+/// What is due for a game called off expires as prizes do, and the house may open a day and
+/// transfer at once, since no ball is in.
+#[test]
+fn a_game_called_off_and_a_year_later() {
+    let mut desk = Desk::on_day_one();
+    desk.straight(0, 500, &[1]);
+    desk.give(Command::Ball { number: 1 });
+    assert_eq!(desk.give(Command::Open { day: 2 }), Answer::refused(6));
+    assert_eq!(desk.call_off(), Answer::accepted(1, 500));
+    assert_eq!(desk.expire_on(366), Answer::accepted(0, 0));
+    assert_eq!(desk.expire_on(367), Answer::accepted(1, 500));
+    desk.give(Command::Ball { number: 1 });
+    let transfer = Command::Transfer { jackpot: 6, cents: 500 };
+    assert_eq!(desk.give(transfer.clone()), Answer::refused(6));
+    assert_eq!(desk.call_off(), Answer::accepted(2, 0));
+    assert_eq!(desk.give(transfer), Answer::accepted(6, 100_500));
 }

@@ -3,7 +3,7 @@
 
 mod side_by_side;
 
-use reference::command::{BALL, COLLECT, LUCKY_LAST, SELL};
+use reference::command::{BALL, CALL_OFF, COLLECT, LUCKY_LAST, SELL};
 use reference::roll::ANSWER_BYTES;
 use reference::{Command, House};
 use rolls::{far_tickets, FarGames, RollWriter};
@@ -16,7 +16,8 @@ fn walk(lounge: &mut Lounge, roll: &[u8], book: &mut [u8]) {
     assert_eq!((report.stop, report.read), (Stop::End, roll.len()));
 }
 
-/// Two hundred million balls, then the last hundred games: codes 17 and 26.
+/// Two hundred million balls, then the last hundred games, of which the very last is drawn or
+/// called off: codes 17 and 26.
 #[test]
 fn the_last_games() {
     let far = FarGames::new();
@@ -27,11 +28,14 @@ fn the_last_games() {
     before.iter().for_each(|roll| walk(&mut lounge, roll, &mut book));
 
     let house = House::seasoned(1, far.games_before_the_last_roll(), 0);
-    let mut pair = Pair::of(lounge, house);
-    assert_eq!(pair.read_by_command(last), Ok(()));
-    assert!(pair.counts.coverage.answers(SELL, 17) >= 5);
-    assert!(pair.counts.coverage.answers(LUCKY_LAST, 17) >= 5);
-    assert_eq!(pair.counts.coverage.answers(BALL, 26), 2);
+    for (roll, called_off) in [(*last, 1), (far.last_roll_called_off(), 2)] {
+        let mut pair = Pair::of(lounge.clone(), house.clone());
+        assert_eq!(pair.read_by_command(roll), Ok(()));
+        let coverage = &pair.counts.coverage;
+        assert!(coverage.answers(SELL, 17) >= 5 && coverage.answers(LUCKY_LAST, 17) >= 5);
+        assert_eq!((coverage.answers(BALL, 26), coverage.answers(CALL_OFF, 26)), (2, 2));
+        assert_eq!(coverage.answers(CALL_OFF, 0), called_off);
+    }
 }
 
 /// Ten million tickets, the last 200 of them live: 16 comes before 17. And the last two

@@ -206,6 +206,23 @@ fn collected() {
     desk.lists(&[4, 6, 8, 11]);
 }
 
+/// A ticket that is due what it paid stays, one that nothing is due on goes: of 50 games
+/// the last is free.
+#[test]
+fn called_off() {
+    let mut desk = Desk::on_day_one();
+    assert_eq!([desk.sell_loser(), desk.sell(50, 80), desk.sell_winner(2)], [1, 2, 3]);
+    assert_eq!(desk.give(Command::CallOff), Answer::CalledOff { game: 1, due: 300 });
+    desk.lists(&[1, 2, 3]);
+    desk.claim(1);
+    assert_eq!(desk.collect(&[2]), [4]);
+    desk.lists(&[3, 4]);
+    (2..=49).for_each(|_game| desk.draw());
+    desk.lists(&[3, 4]);
+    assert_eq!(desk.give(Command::CallOff), Answer::CalledOff { game: 50, due: 0 });
+    desk.lists(&[3]);
+}
+
 /// Each of 200, from the last to the first: the list is as long as before.
 #[test]
 fn two_hundred_collected() {

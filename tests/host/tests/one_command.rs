@@ -66,13 +66,34 @@ fn a_collection_is_done_once() {
     assert!(lounge == before);
 }
 
+/// And a call-off, of the next game when it is given again.
+#[test]
+fn a_game_is_called_off_once() {
+    let mut lounge = Lounge::fresh();
+    let roll = "open 1\nsell standard games 1 stake 100 groups 1 types 1\nballs 1 2 3\n";
+    let roll = wulipday::words::encode(roll).expect("commands");
+    lounge.roll(&roll, &mut [0; 5 * ANSWER_BYTES]);
+    let mut answer = [BLANK; ANSWER_BYTES];
+    for (number, cents) in [(1, 100), (2, 0)] {
+        let report = lounge.command(&[10, 10], &mut answer);
+        assert_eq!(report, Report { stop: Stop::BookFull, read: 1, answers: 1 });
+        assert_eq!(Record::read(&answer), Record { command: 10, code: 0, number, cents });
+        assert_eq!((lounge.till().owed, lounge.till().held), (100, 0));
+    }
+    let mut closed = Lounge::fresh();
+    let report = closed.command(&[10], &mut answer);
+    assert_eq!(report, Report { stop: Stop::End, read: 1, answers: 1 });
+    assert_eq!(Record::read(&answer), Record { command: 10, code: 4, number: 0, cents: 0 });
+    assert!(closed == Lounge::fresh());
+}
+
 #[test]
 fn without_a_whole_command_nothing_is_done() {
     // 93 bytes would be a sale with a feature.
     for (bytes, stop) in [
         (&[][..], Stop::End),
         (&[0xFF], Stop::UnknownByte),
-        (&[10], Stop::UnknownByte),
+        (&[11], Stop::UnknownByte),
         (&[5, 0, 0, 0], Stop::TooFewBytes),
         (&[9, 0, 0, 0], Stop::TooFewBytes),
         (&[8; 92], Stop::TooFewBytes),

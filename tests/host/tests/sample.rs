@@ -1,7 +1,9 @@
 //! The sample roll: its bytes, what the ledger prints for it, the answers that
 //! its comments give, and all that it is there to show.
 
-use reference::command::{BALL, CANCEL, CLAIM, COLLECT, EXPIRE, LUCKY_LAST, OPEN, SELL, TRANSFER};
+use reference::command::{
+    BALL, CALL_OFF, CANCEL, CLAIM, COLLECT, EXPIRE, LUCKY_LAST, OPEN, SELL, TRANSFER,
+};
 use reference::settlement::Settlement;
 use reference::{ledger, Answer, Command, House};
 use rolls::coverage::CODES;
@@ -59,7 +61,7 @@ fn run() -> Vec<Given> {
         let drawing = house.is_drawing();
         let game = house.game();
         let answer = house.command(&command);
-        let ended = house.game() != game;
+        let ended = house.game() != game && command != Command::CallOff;
         let settlement = house.last_settlement().filter(|_| ended).cloned();
         Given { command, answer, drawing, settlement }
     };
@@ -74,12 +76,13 @@ fn every_command_is_accepted_and_refused() {
         let of = given.iter().filter(move |given| given.command.byte() == byte);
         of.map(|given| given.answer.code).collect::<Vec<u8>>()
     };
-    for byte in [OPEN, SELL, CANCEL, BALL, CLAIM, EXPIRE, TRANSFER, LUCKY_LAST, COLLECT] {
+    let bytes = [OPEN, SELL, CANCEL, BALL, CLAIM, EXPIRE, TRANSFER, LUCKY_LAST, COLLECT, CALL_OFF];
+    for byte in bytes {
         assert!(codes_of(byte).contains(&0), "command {byte} is never accepted");
     }
     // 10 takes marks that words can't say, 16 takes 200 tickets, 17 and 26 take ten
     // million games, and 35 as many tickets.
-    let left_out = [(SELL, 10), (SELL, 16), (SELL, 17), (BALL, 26), (COLLECT, 35)];
+    let left_out = [(SELL, 10), (SELL, 16), (SELL, 17), (BALL, 26), (COLLECT, 35), (CALL_OFF, 26)];
     for (byte, codes) in CODES {
         // Those that a Lucky Last shares with a Sell are shown by a Sell.
         let is_shared = |code: u8| byte == LUCKY_LAST && (7..=17).contains(&code);
@@ -114,6 +117,9 @@ fn the_sample_shows_what_it_says() {
     for drawing in [false, true] {
         shows("collection", &|given| accepted(given, COLLECT) && given.drawing == drawing);
     }
+    shows("game called off for which something is due", &|given| {
+        accepted(given, CALL_OFF) && given.drawing && given.answer.cents > 0
+    });
     shows("expiry", &|given| accepted(given, EXPIRE) && given.answer.number > 0);
     for jackpot in [6, 8] {
         shows("transfer", &|given| accepted(given, TRANSFER) && given.answer.number == jackpot);

@@ -80,7 +80,7 @@ fn bytes_of_no_sense() {
         let any: Vec<u8> = (0..size).map(|_| random.byte()).collect();
         compare(&format!("{size} bytes"), &any);
         // Known commands with any operands.
-        let known: Vec<u8> = (0..size).map(|_| random.between(1, 9) as u8).collect();
+        let known: Vec<u8> = (0..size).map(|_| random.between(1, 10) as u8).collect();
         compare(&format!("{size} known bytes"), &known);
     }
 }

@@ -14,6 +14,8 @@ pub const TRANSFER: u8 = 0x07;
 pub const LUCKY_LAST: u8 = 0x08;
 /// What is due part way, and the games left under a new number.
 pub const COLLECT: u8 = 0x09;
+/// The current game dropped, and what was paid for it due.
+pub const CALL_OFF: u8 = 0x0A;
 
 /// Bytes of a sale's operands, without a feature stake.
 const SALE_OPERANDS: usize = 1 + 1 + 4 + 1 + 1 + NUMBERS;
@@ -44,6 +46,7 @@ pub enum Command {
     Collect {
         ticket: u32,
     },
+    CallOff,
 }
 
 /// The operands of a sale.
@@ -138,6 +141,7 @@ impl Command {
             Command::Expire => EXPIRE,
             Command::Transfer { .. } => TRANSFER,
             Command::Collect { .. } => COLLECT,
+            Command::CallOff => CALL_OFF,
         }
     }
 
@@ -154,7 +158,7 @@ impl Command {
                 bytes.extend(ticket.to_be_bytes());
             }
             Command::Ball { number } => bytes.push(*number),
-            Command::Expire => {}
+            Command::Expire | Command::CallOff => {}
             Command::Transfer { jackpot, cents } => {
                 bytes.push(*jackpot);
                 bytes.extend(cents.to_be_bytes());
@@ -178,6 +182,7 @@ impl Command {
                 Command::Transfer { jackpot: operands[0], cents: four_bytes(&operands[1..]) }
             }
             COLLECT => Command::Collect { ticket: four_bytes(operands) },
+            CALL_OFF => Command::CallOff,
             unknown => panic!("no command has the byte {unknown}"),
         }
     }
@@ -192,7 +197,7 @@ pub fn length(byte: u8) -> Option<usize> {
         LUCKY_LAST => Some(1 + SALE_OPERANDS + 4),
         CANCEL | CLAIM | COLLECT => Some(1 + 4),
         BALL => Some(1 + 1),
-        EXPIRE => Some(1),
+        EXPIRE | CALL_OFF => Some(1),
         TRANSFER => Some(1 + 1 + 4),
         _ => None,
     }

@@ -49,11 +49,21 @@ pub enum Flaw {
     ReissuedFreeGamesAnew,
     /// The game being drawn does not go to the new number, nor stay with the old.
     ReissuedWithoutGameBeingDrawn,
+    /// A free game that is called off gives back what a paid one does.
+    FreeGameGivenBack,
+    /// The stakes of a game that is called off give the jackpots their part all the same.
+    CalledOffGamePools,
+    /// The balls of a game that is called off are in the next one.
+    CalledOffBallsStay,
+    /// The next game has the number of the one that was called off.
+    CalledOffNumberStays,
+    /// What was paid for a game that is called off stays held, though it is due.
+    CalledOffStakesStayHeld,
 }
 
 impl Flaw {
     /// The flaws proper, without [`Flaw::None`].
-    pub const ALL: [Flaw; 19] = [
+    pub const ALL: [Flaw; 24] = [
         Flaw::SettlesOneGameMore,
         Flaw::OneCutRound,
         Flaw::CappedJackpot,
@@ -73,5 +83,10 @@ impl Flaw {
         Flaw::ReissuedAsSoldToday,
         Flaw::ReissuedFreeGamesAnew,
         Flaw::ReissuedWithoutGameBeingDrawn,
+        Flaw::FreeGameGivenBack,
+        Flaw::CalledOffGamePools,
+        Flaw::CalledOffBallsStay,
+        Flaw::CalledOffNumberStays,
+        Flaw::CalledOffStakesStayHeld,
     ];
 }

@@ -134,6 +134,7 @@ impl House {
             Command::Expire => self.expire(),
             Command::Transfer { jackpot, cents } => self.transfer(*jackpot, *cents),
             Command::Collect { ticket } => self.collect(*ticket),
+            Command::CallOff => self.call_off(),
         };
         match outcome {
             Ok((number, cents)) => {
@@ -204,10 +205,10 @@ impl House {
         let index = self.check_ticket(number)?;
         let ticket = &mut self.tickets[index];
         met(!ticket.is_finished(), refusal::NOT_FINISHED)?;
-        met(ticket.won() == 0, refusal::NOTHING_DUE)?;
+        met(ticket.due() == 0, refusal::NOTHING_DUE)?;
 
         ticket.closing = Some(Closing::Claimed);
-        Ok((number, ticket.won()))
+        Ok((number, ticket.due()))
     }
 
     fn expire(&mut self) -> Outcome {
@@ -221,7 +222,7 @@ impl House {
         for ticket in self.tickets.iter_mut().filter(is_over) {
             ticket.closing = Some(Closing::Expired);
             expired += 1;
-            dues += ticket.won();
+            dues += ticket.due();
         }
         Ok((expired, dues))
     }
@@ -245,7 +246,7 @@ impl House {
     fn collect(&mut self, number: u32) -> Outcome {
         self.check_day()?;
         let index = self.check_ticket(number)?;
-        let due = self.tickets[index].won();
+        let due = self.tickets[index].due();
         met(self.tickets[index].is_finished(), refusal::FINISHED)?;
         met(due == 0, refusal::NOTHING_DUE_YET)?;
         met(self.issued() >= Self::LAST_TICKET, refusal::TICKETS_USED_UP)?;
@@ -255,6 +256,30 @@ impl House {
         let reissued = self.tickets[index].collect(next, self.today, being_drawn, self.flaw);
         self.tickets.push(reissued);
         Ok((next, due))
+    }
+
+    /// Drops the current game with its balls. Nobody plays in it: no jackpot gets or gives
+    /// anything, and what was paid for it is due on its tickets.
+    fn call_off(&mut self) -> Outcome {
+        self.check_day()?;
+        met(self.game > Self::LAST_GAME, refusal::GAMES_USED_UP)?;
+
+        let game = self.game;
+        if self.flaw == Flaw::CalledOffGamePools {
+            self.contribute_at_call_off();
+        }
+        let mut due = 0;
+        for ticket in self.tickets.iter_mut().filter(|ticket| ticket.is_live()) {
+            due += ticket.call_off(game, self.flaw);
+            ticket.finish_if_no_game_is_left(self.today);
+        }
+        if self.flaw != Flaw::CalledOffNumberStays {
+            self.game += 1;
+        }
+        if self.flaw != Flaw::CalledOffBallsStay {
+            self.balls.clear();
+        }
+        Ok((game, due))
     }
 
     /// Writes the numbers of the live tickets in rising order, 4 bytes each,
@@ -301,8 +326,8 @@ impl House {
         self.is_drawing().then_some(self.game)
     }
 
-    /// Whether the first ball of the ticket's first game has been drawn; a reissued
-    /// ticket counts as begun, however few games are left.
+    /// Whether the first ball of the ticket's first game has been drawn, or the game was
+    /// called off; a reissued ticket counts as begun, however few games are left.
     fn has_begun(&self, ticket: &Ticket) -> bool {
         if !ticket.is_sold() {
             return true;
@@ -317,9 +342,7 @@ impl House {
             self.prolong_finished_tickets();
         }
         let game = self.game;
-        let plays = |ticket: &Ticket| ticket.is_live() && ticket.waiting_game(game).is_some();
-        let players: Vec<usize> =
-            (0..self.tickets.len()).filter(|&index| plays(&self.tickets[index])).collect();
+        let players = self.players();
         let entries: Vec<Entry> =
             players.iter().map(|&index| entry(&self.tickets[index], game)).collect();
         let draw = Draw::of(&self.balls);
@@ -340,6 +363,12 @@ impl House {
         won
     }
 
+    /// Where the tickets stand that run in the current game.
+    fn players(&self) -> Vec<usize> {
+        let plays = |ticket: &Ticket| ticket.is_live() && ticket.waiting_game(self.game).is_some();
+        (0..self.tickets.len()).filter(|&index| plays(&self.tickets[index])).collect()
+    }
+
     /// The flaw of settling first + games as well: a live ticket whose last
     /// game was the one before gets one more.
     fn prolong_finished_tickets(&mut self) {
@@ -350,6 +379,17 @@ impl House {
             if just_drawn && last.number + 1 == game {
                 let standing = Standing::Waiting;
                 ticket.games.push(TicketGame { number: game, paid: false, standing });
+            }
+        }
+    }
+
+    /// The flaw of pooling at a call-off.
+    fn contribute_at_call_off(&mut self) {
+        for index in self.players() {
+            let Entry { terms, paid } = entry(&self.tickets[index], self.game);
+            let numbers = terms.jackpot_numbers().filter(|_| paid);
+            if let Some(jackpot) = numbers.and_then(|numbers| self.jackpots.for_numbers(numbers)) {
+                self.contributed += jackpot.contribute(terms.way_stakes());
             }
         }
     }

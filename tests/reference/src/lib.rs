@@ -15,6 +15,7 @@
 //! | Odd jackpot cents, asked since      | [`jackpots`]                     |
 //! | Lucky Last, asked since             | [`draw`], [`price`], [`prizes`], [`schedule`] |
 //! | Collecting part way, asked since    | [`ticket`], [`house`], [`sheet`] |
+//! | A game called off, asked since      | [`ticket`], [`house`], [`sheet`] |
 //! | The house: commands                 | [`command`], [`ticket`], [`house`] |
 //! | The house: till                     | [`till`]                         |
 //! | The house: the count sheet          | [`sheet`]                        |

@@ -52,6 +52,16 @@ fn next_command(unread: &[u8], room: usize) -> Result<&[u8], u8> {
     Ok(bytes)
 }
 
+/// The whole known commands that a roll begins with.
+pub fn commands(roll: &[u8]) -> impl Iterator<Item = Command> + '_ {
+    let mut unread = roll;
+    std::iter::from_fn(move || {
+        let (bytes, rest) = unread.split_at_checked(length(*unread.first()?)?)?;
+        unread = rest;
+        Some(Command::decode(bytes))
+    })
+}
+
 fn write_answer(room: &mut [u8], byte: u8, answer: Answer) {
     room[0] = byte;
     room[1] = answer.code;

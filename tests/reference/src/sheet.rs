@@ -38,6 +38,12 @@ impl Line {
         }
     }
 
+    /// A game that is left no more.
+    fn game_went(&mut self, game: u32, today: u16) {
+        self.games_left.retain(|&left| left != game);
+        self.games_went(today);
+    }
+
     /// A line gets today as its finishing day when its last game goes.
     fn games_went(&mut self, today: u16) {
         if self.games_left.is_empty() {
@@ -108,6 +114,7 @@ impl CountSheet {
             Command::Expire => self.expire(),
             Command::Transfer { jackpot, cents } => self.transfer(*jackpot, Cents::from(*cents)),
             Command::Collect { ticket } => self.collect(*ticket),
+            Command::CallOff => self.call_off(),
         }
     }
 
@@ -184,8 +191,7 @@ impl CountSheet {
             let won = winnings.prizes + winnings.feature + winnings.shares;
             let stakes = line.paid_stakes_of(game);
             line.due += won;
-            line.games_left.retain(|&left| left != game);
-            line.games_went(self.today);
+            line.game_went(game, self.today);
             self.figures.owed += won;
             self.figures.held -= stakes;
             self.figures.retained += stakes - winnings.prizes - winnings.feature;
@@ -195,9 +201,31 @@ impl CountSheet {
         self.figures.seeds += settlement.seeded;
         self.figures.pooled += settlement.contributed + settlement.seeded - settlement.paid_back;
         self.figures.retained += settlement.paid_back - settlement.contributed;
+        self.next_game();
+        all_won
+    }
+
+    /// The next game is current, without balls.
+    fn next_game(&mut self) {
         self.game += 1;
         self.balls.clear();
-        all_won
+    }
+
+    /// Each line with the current game left is due its paid stake for it, which goes from
+    /// held to owed.
+    fn call_off(&mut self) -> (u32, Cents) {
+        let (today, game) = (self.today, self.game);
+        let mut dues = 0;
+        for line in self.lines.iter_mut().filter(|line| line.games_left.contains(&game)) {
+            let stakes = line.paid_stakes_of(game);
+            line.due += stakes;
+            line.game_went(game, today);
+            dues += stakes;
+        }
+        self.figures.held -= dues;
+        self.figures.owed += dues;
+        self.next_game();
+        (game, dues)
     }
 
     fn claim(&mut self, ticket: u32) -> (u32, Cents) {

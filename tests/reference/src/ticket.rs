@@ -114,6 +114,8 @@ pub enum Standing {
     Drawn(Winnings),
     /// Taken off by a cancel.
     TakenOff,
+    /// Called off, with what is due for it: what was paid for it.
+    CalledOff(Cents),
 }
 
 /// One game of a ticket.
@@ -123,6 +125,12 @@ pub struct TicketGame {
     /// Whether it was charged for; the last games of a Keno To Go are free.
     pub paid: bool,
     pub standing: Standing,
+}
+
+impl TicketGame {
+    fn waits_as(&self, number: u32) -> bool {
+        self.number == number && self.standing == Standing::Waiting
+    }
 }
 
 /// Why a ticket is closed.
@@ -251,16 +259,25 @@ impl Ticket {
 
     /// The line of a game that is waiting to be drawn.
     pub fn waiting_game(&self, number: u32) -> Option<&TicketGame> {
-        self.games.iter().find(|game| game.number == number && game.standing == Standing::Waiting)
+        self.games.iter().find(|game| game.waits_as(number))
     }
 
     /// Notes what a waiting game has won.
     pub fn draw(&mut self, number: u32, winnings: Winnings) {
-        for game in &mut self.games {
-            if game.number == number && game.standing == Standing::Waiting {
-                game.standing = Standing::Drawn(winnings);
-            }
+        if let Some(game) = self.games.iter_mut().find(|game| game.waits_as(number)) {
+            game.standing = Standing::Drawn(winnings);
         }
+    }
+
+    /// Drops a waiting game, and answers what is due for it: all that was paid for it, and
+    /// for a free game nothing. Without the game nothing happens.
+    pub fn call_off(&mut self, number: u32, flaw: Flaw) -> Cents {
+        let price = self.terms.game_price();
+        let Some(game) = self.games.iter_mut().find(|game| game.waits_as(number)) else { return 0 };
+        let is_due = game.paid || flaw == Flaw::FreeGameGivenBack;
+        let due = if is_due { price } else { 0 };
+        game.standing = Standing::CalledOff(due);
+        due
     }
 
     /// If no game is left: today is the finishing day, and with nothing due the
@@ -268,7 +285,7 @@ impl Ticket {
     pub fn finish_if_no_game_is_left(&mut self, today: u16) {
         if self.finished_on.is_none() && self.is_finished() {
             self.finished_on = Some(today);
-            if self.won() == 0 {
+            if self.due() == 0 {
                 self.closing = Some(Closing::NothingDue);
             }
         }
@@ -289,6 +306,21 @@ impl Ticket {
         self.drawn(Winnings::all)
     }
 
+    /// What was paid for games called off.
+    pub fn given_back(&self) -> Cents {
+        let stakes_of = |game: &TicketGame| match game.standing {
+            Standing::CalledOff(stakes) => stakes,
+            _ => 0,
+        };
+        self.games.iter().map(stakes_of).sum()
+    }
+
+    /// All that this number brings: what its games won, and what was paid for those called
+    /// off.
+    pub fn due(&self) -> Cents {
+        self.won() + self.given_back()
+    }
+
     fn drawn(&self, figure: impl Fn(&Winnings) -> Cents) -> Cents {
         let figure_of = |game: &TicketGame| match &game.standing {
             Standing::Drawn(winnings) => figure(winnings),
@@ -297,9 +329,14 @@ impl Ticket {
         self.games.iter().map(figure_of).sum()
     }
 
-    /// What was paid for games neither drawn nor cancelled.
-    pub fn held(&self) -> Cents {
-        self.terms.game_price() * self.paid_games(|standing| *standing == Standing::Waiting)
+    /// What was paid for games neither drawn, cancelled nor called off.
+    pub fn held(&self, flaw: Flaw) -> Cents {
+        let is_held = |standing: &Standing| match standing {
+            Standing::Waiting => true,
+            Standing::CalledOff(_) => flaw == Flaw::CalledOffStakesStayHeld,
+            _ => false,
+        };
+        self.terms.game_price() * self.paid_games(is_held)
     }
 
     /// What was paid for games taken off.

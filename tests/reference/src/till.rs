@@ -25,8 +25,8 @@ impl House {
             self.seeded,
             self.paid(),
             self.refunded(),
-            self.won_by_tickets(None),
-            self.sum(Ticket::held),
+            self.due_on_tickets(None),
+            self.sum(|ticket| ticket.held(self.flaw)),
             self.unclaimed(),
             self.jackpots.pooled(),
             self.retained(),
@@ -41,7 +41,7 @@ impl House {
     /// Claims and collections.
     fn paid(&self) -> Cents {
         let paid = [Closing::Claimed, Closing::Collected].map(Some);
-        paid.into_iter().map(|closing| self.won_by_tickets(closing)).sum()
+        paid.into_iter().map(|closing| self.due_on_tickets(closing)).sum()
     }
 
     fn refunded(&self) -> Cents {
@@ -55,7 +55,7 @@ impl House {
 
     /// Expired less transferred.
     pub fn unclaimed(&self) -> Cents {
-        self.won_by_tickets(Some(Closing::Expired)) - self.transferred
+        self.due_on_tickets(Some(Closing::Expired)) - self.transferred
     }
 
     fn retained(&self) -> Cents {
@@ -64,9 +64,10 @@ impl House {
         stakes_of_drawn_games - self.contributed - prizes + self.paid_back
     }
 
-    /// What the tickets closed in this way have won; `None` is for live ones.
-    fn won_by_tickets(&self, closing: Option<Closing>) -> Cents {
-        self.sum(|ticket| if ticket.closing == closing { ticket.won() } else { 0 })
+    /// What the tickets closed in this way have won, with what was paid for games called
+    /// off; `None` is for live ones.
+    fn due_on_tickets(&self, closing: Option<Closing>) -> Cents {
+        self.sum(|ticket| if ticket.closing == closing { ticket.due() } else { 0 })
     }
 
     fn sum(&self, figure: impl Fn(&Ticket) -> Cents) -> Cents {

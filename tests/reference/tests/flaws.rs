@@ -47,6 +47,15 @@ fn must_find(flaw: Flaw) -> &'static [&'static str] {
         Flaw::ReissuedWithoutGameBeingDrawn => {
             &["the game being drawn goes to the new number", "only the game being drawn is left"]
         }
+        Flaw::FreeGameGivenBack => &["a free game gives nothing", "two free games are called off"],
+        Flaw::CalledOffGamePools => &["no pool gains by a game called off"],
+        Flaw::CalledOffBallsStay => &["the balls go with the game", "nobody draws any more"],
+        Flaw::CalledOffNumberStays => {
+            &["a game is called off before its first ball", "games are called off in a row"]
+        }
+        Flaw::CalledOffStakesStayHeld => {
+            &["a game is called off before its first ball", "a claim pays stakes beside prizes"]
+        }
     }
 }
 

@@ -3,7 +3,7 @@
 //!
 //! The command that must be refused with a number breaks, as far as one
 //! command can, every later rule of its row as well. Sales with a feature stand in
-//! feature_refusals.rs, collections in collecting.rs.
+//! feature_refusals.rs, collections in collecting.rs, games called off in calling_off.rs.
 
 mod checks;
 
@@ -40,6 +40,7 @@ fn code_4_every_command_but_open() {
         Command::Expire,
         Command::Transfer { jackpot: 0, cents: 0 },
         Command::Collect { ticket: 0 },
+        Command::CallOff,
     ];
     for command in commands {
         refused(&mut house, &command, 4);

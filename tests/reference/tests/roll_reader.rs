@@ -46,7 +46,7 @@ fn stop_0_at_the_end_however_full_the_book() {
 
 #[test]
 fn stop_1_at_an_unknown_byte() {
-    for unknown in [0, 10, 255] {
+    for unknown in [0, 11, 255] {
         assert_eq!(run(&[unknown], 0).1, report(1, 0, 0));
         let roll = [&printed_roll()[..], &[unknown, 1, 2, 3]].concat();
         assert_eq!(run(&roll, 56).1, report(1, 102, 4));
@@ -58,7 +58,7 @@ fn stop_1_at_an_unknown_byte() {
 #[test]
 fn stop_2_with_too_few_bytes_left() {
     let roll = printed_roll();
-    for byte in 1..=9 {
+    for byte in 1..=10 {
         for bytes in 1..length(byte).expect("known") {
             let mut cut_off = vec![0; bytes];
             cut_off[0] = byte;
@@ -115,6 +115,7 @@ fn commands_read_back_as_written() {
         Command::lucky_last(100, 0x12345678, 0, &[1, 80]),
         Command::Sell(Sale::new(3, 1, 7, &[&[2], &[3]], 0x81).with_feature(0xFEDCBA98)),
         Command::Collect { ticket: 0x0A0B0C0D },
+        Command::CallOff,
     ];
     for command in commands {
         let bytes = command.encode();
@@ -122,6 +123,7 @@ fn commands_read_back_as_written() {
         assert_eq!(Command::decode(&bytes), command);
     }
     assert_eq!(Command::Open { day: 0x1234 }.encode(), [1, 0x12, 0x34]);
+    assert_eq!(Command::CallOff.encode(), [10]);
     assert_eq!(
         Command::Transfer { jackpot: 8, cents: 0x12345678 }.encode(),
         [7, 8, 0x12, 0x34, 0x56, 0x78]
@@ -167,7 +169,7 @@ fn a_record_with_large_figures() {
 #[test]
 fn the_ledger_prints_stops_and_minus_signs() {
     assert_eq!(ledger(&[]), "stop 0\ntill 0 1350000 0 0 0 0 0 1350000 0\n");
-    assert_eq!(ledger(&[10]), "stop 1\ntill 0 1350000 0 0 0 0 0 1350000 0\n");
+    assert_eq!(ledger(&[11]), "stop 1\ntill 0 1350000 0 0 0 0 0 1350000 0\n");
     assert_eq!(ledger(&[6, 1]), "6 4 0 0\nstop 2\ntill 0 1350000 0 0 0 0 0 1350000 0\n");
     assert_eq!(ledger(&printed_roll()), PRINTED_LEDGER);
 

@@ -10,9 +10,9 @@ use reference::{Command, House, Sale};
 
 /// A ticket for so many games that wins by the first balls and loses by those from the
 /// 31st on.
-type Sort = fn(u8, &[u8]) -> Sale;
+pub(crate) type Sort = fn(u8, &[u8]) -> Sale;
 
-const SORTS: [Sort; 4] = [
+pub(crate) const SORTS: [Sort; 4] = [
     |games, numbers| Sale::new(STANDARD, games, 100, &[&numbers[..1]], 1),
     |games, numbers| Sale::new(JACKPOT, games, 100, &[&numbers[..6]], 1),
     |games, numbers| Sale::new(STANDARD, games, 100, &[&numbers[19..20]], 1).with_feature(300),
@@ -150,7 +150,7 @@ fn end_with(writer: &mut RollWriter, end: End, numbers: &[u8]) {
 }
 
 /// At most so far that the ticket has no game left.
-fn draw_to_the_end(writer: &mut RollWriter, number: u32, numbers: &[u8]) {
+pub(crate) fn draw_to_the_end(writer: &mut RollWriter, number: u32, numbers: &[u8]) {
     let is_running = |house: &House| {
         house.live_tickets().any(|ticket| ticket.number == number && !ticket.is_finished())
     };
@@ -249,11 +249,7 @@ pub fn jackpots(seed: u64) -> Vec<Vec<u8>> {
 fn shared_again(random: &mut Random) -> Vec<u8> {
     let mut writer = RollWriter::opened();
     let numbers = random.numbers();
-    for _ticket in 0..random.between(3, 9) {
-        let size = random.pick(&[6, 6, 8]);
-        let stake = random.pick(&[100, 100, 200, 700]);
-        writer.straight(JACKPOT, random.pick(&[4, 6, 50]), stake, &numbers[..size]);
-    }
+    jackpot_tickets(&mut writer, random, [4, 6, 50], &numbers);
     for _game in 0..6 {
         jackpot_ticket(&mut writer, random, &numbers);
         writer.draw_from(&numbers);
@@ -270,4 +266,18 @@ fn shared_again(random: &mut Random) -> Vec<u8> {
     }
     writer.claim_last(writer.house().issued());
     writer.finish()
+}
+
+/// Three to nine that win by the same balls, of one of these numbers of games each.
+pub(crate) fn jackpot_tickets(
+    writer: &mut RollWriter,
+    random: &mut Random,
+    games: [u8; 3],
+    numbers: &[u8],
+) {
+    for _ticket in 0..random.between(3, 9) {
+        let size = random.pick(&[6, 6, 8]);
+        let stake = random.pick(&[100, 100, 200, 700]);
+        writer.straight(JACKPOT, random.pick(&games), stake, &numbers[..size]);
+    }
 }

@@ -1,8 +1,8 @@
 //! What a set of rolls collects, and what becomes of the new numbers.
 
-use reference::command::length;
+use crate::outcomes::Outcomes;
+use reference::roll::commands;
 use reference::{Closing, Command, House, Kind, Standing, Ticket};
-use std::collections::BTreeMap;
 
 /// Each is to be met. The first are of the collection, the others of the number that it
 /// issued.
@@ -31,21 +31,24 @@ const OUTCOMES: [&str; 21] = [
 ];
 
 /// Accepted collections, counted.
-#[derive(Clone, Debug, Default)]
+#[derive(Clone, Debug)]
 pub struct Collections {
-    met: BTreeMap<&'static str, u64>,
+    pub outcomes: Outcomes,
+}
+
+impl Default for Collections {
+    fn default() -> Collections {
+        Collections { outcomes: Outcomes::of(&OUTCOMES) }
+    }
 }
 
 impl Collections {
     /// Runs the whole known commands of a roll on a fresh reference house.
     pub fn count_roll(&mut self, roll: &[u8]) {
         let mut house = House::fresh();
-        let mut unread = roll;
-        while let Some(bytes) = unread.first().and_then(|&byte| unread.get(..length(byte)?)) {
-            let command = Command::decode(bytes);
+        for command in commands(roll) {
             self.count_command(&house, &command);
             house.command(&command);
-            unread = &unread[bytes.len()..];
         }
         for ticket in house.tickets().iter().filter(|ticket| !ticket.is_sold()) {
             self.count_reissued(ticket);
@@ -57,7 +60,7 @@ impl Collections {
         match command {
             Command::Collect { ticket } => {
                 let live = house.live_tickets().find(|live| live.number == *ticket);
-                if let Some(ticket) = live.filter(|live| !live.is_finished() && live.won() > 0) {
+                if let Some(ticket) = live.filter(|live| !live.is_finished() && live.due() > 0) {
                     self.count_collection(house, ticket);
                 }
             }
@@ -112,18 +115,7 @@ impl Collections {
     }
 
     fn meet(&mut self, outcome: &'static str, is_met: bool) {
-        assert!(OUTCOMES.contains(&outcome), "{outcome}");
-        *self.met.entry(outcome).or_default() += u64::from(is_met);
-    }
-
-    pub fn count(&self, outcome: &str) -> u64 {
-        assert!(OUTCOMES.contains(&outcome), "{outcome}");
-        self.met.get(outcome).copied().unwrap_or_default()
-    }
-
-    /// What was not met.
-    pub fn missing(&self) -> Vec<&'static str> {
-        OUTCOMES.into_iter().filter(|outcome| self.count(outcome) == 0).collect()
+        self.outcomes.meet(outcome, is_met);
     }
 }
 

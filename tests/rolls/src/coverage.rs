@@ -1,7 +1,9 @@
 //! Which refusals of "Where each thing is checked", with those asked for since, a
 //! set of rolls has met, and which stops of "The roll".
 
-use reference::command::{BALL, CANCEL, CLAIM, COLLECT, EXPIRE, LUCKY_LAST, OPEN, SELL, TRANSFER};
+use reference::command::{
+    BALL, CALL_OFF, CANCEL, CLAIM, COLLECT, EXPIRE, LUCKY_LAST, OPEN, SELL, TRANSFER,
+};
 use reference::roll::{read_answer, run_roll, ANSWER_BYTES, STOP_BOOK_FULL};
 use reference::House;
 
@@ -9,7 +11,7 @@ use reference::House;
 ///
 /// Code 24 is not among them: a finished ticket with nothing due is closed, so
 /// 19 comes first. Code 30 belongs to the live list, which is on no roll.
-pub const CODES: [(u8, &[u8]); 9] = [
+pub const CODES: [(u8, &[u8]); 10] = [
     (OPEN, &[0, 5, 6]),
     (SELL, &[0, 4, 7, 8, 9, 10, 11, 12, 13, 14, 15, 16, 17]),
     (CANCEL, &[0, 4, 18, 19, 20, 21, 22]),
@@ -19,6 +21,7 @@ pub const CODES: [(u8, &[u8]); 9] = [
     (TRANSFER, &[0, 4, 28, 6, 29]),
     (LUCKY_LAST, &[0, 4, 7, 8, 9, 10, 11, 12, 13, 31, 14, 32, 15, 16, 17]),
     (COLLECT, &[0, 4, 18, 19, 33, 34, 35]),
+    (CALL_OFF, &[0, 4, 26]),
 ];
 
 /// Codes that no roll of a reasonable size reaches. 17 and 26 need 9,999,900
@@ -31,7 +34,7 @@ pub const FAR_CODES: [u8; 3] = [17, 26, 35];
 #[derive(Clone, Debug)]
 pub struct Coverage {
     /// By command byte and code.
-    answers: [[u64; 256]; 10],
+    answers: [[u64; 256]; 11],
     stops: [u64; 4],
 }
 
@@ -43,7 +46,7 @@ impl Default for Coverage {
 
 impl Coverage {
     pub fn new() -> Coverage {
-        Coverage { answers: [[0; 256]; 10], stops: [0; 4] }
+        Coverage { answers: [[0; 256]; 11], stops: [0; 4] }
     }
 
     pub fn count_answer(&mut self, command: u8, code: u8) {

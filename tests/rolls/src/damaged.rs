@@ -58,7 +58,7 @@ fn cut_off(random: &mut Random, roll: &mut Vec<u8>) {
 fn put_unknown_command(random: &mut Random, roll: &mut Vec<u8>) {
     let starts = command_starts(roll);
     let place = random.pick(&starts);
-    let unknown = random.pick(&[0, 10, 11, 128, 255]);
+    let unknown = random.pick(&[0, 11, 12, 128, 255]);
     roll.insert(place, unknown);
 }
 
@@ -100,6 +100,6 @@ fn noise_roll(random: &mut Random) -> Vec<u8> {
     }
     // Small bytes make longer stretches of known commands.
     let mut roll = vec![1, 0, 1];
-    roll.extend((0..bytes).map(|_| random.below(11) as u8));
+    roll.extend((0..bytes).map(|_| random.below(12) as u8));
     roll
 }

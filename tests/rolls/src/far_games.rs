@@ -1,5 +1,5 @@
 //! Up to game 9,999,999: "last game past 9,999,999" (17) and "current game past
-//! 9,999,999" (26).
+//! 9,999,999" (26), by a ball and by a call-off, whether that game was drawn or called off.
 //!
 //! Nothing shorter than two hundred million balls leads there, so this is no
 //! roll but one roll after another, on one house, most of them the same.
@@ -14,6 +14,7 @@ pub struct FarGames {
     times: usize,
     remaining_games: Vec<u8>,
     last: Vec<u8>,
+    last_called_off: Vec<u8>,
 }
 
 /// The game in which a ticket of 100 games ends with the last game there is.
@@ -31,7 +32,8 @@ impl FarGames {
             many_games: empty_games(GAMES_ON_A_ROLL),
             times: (games / GAMES_ON_A_ROLL) as usize,
             remaining_games: empty_games(games % GAMES_ON_A_ROLL),
-            last: last_games(),
+            last: last_games(LastGame::Drawn),
+            last_called_off: last_games(LastGame::CalledOff),
         }
     }
 
@@ -48,6 +50,11 @@ impl FarGames {
     /// [`House::seasoned`].
     pub fn last_roll(&self) -> &[u8] {
         &self.last
+    }
+
+    /// The same, but that game 9,999,999 is called off and not drawn.
+    pub fn last_roll_called_off(&self) -> &[u8] {
+        &self.last_called_off
     }
 
     /// Games drawn before the last roll.
@@ -68,9 +75,15 @@ fn empty_games(games: u32) -> Vec<u8> {
     one_game.repeat(games as usize)
 }
 
+/// How the games end.
+enum LastGame {
+    Drawn,
+    CalledOff,
+}
+
 /// The last hundred games, with sales that just end in time and sales that do
-/// not, and what is left to do after the last game.
-fn last_games() -> Vec<u8> {
+/// not, one game called off among them, and what is left to do after the last game.
+fn last_games(last_game: LastGame) -> Vec<u8> {
     let mut writer = RollWriter::on(House::seasoned(1, LAST_HUNDRED - 1, 0));
     let balls: Vec<u8> = (1..=20).collect();
     writer.straight(0, 100, 100, &[1]);
@@ -86,6 +99,10 @@ fn last_games() -> Vec<u8> {
         writer.straight(0, games, 100, &[80]);
         writer.lucky_last(games, 100, 200, &[80]);
     }
+    writer.call_off();
+    for games in [98, 97] {
+        writer.straight(0, games, 100, &[1]);
+    }
     while writer.house().game() < House::LAST_GAME {
         writer.balls(&balls);
     }
@@ -96,11 +113,20 @@ fn last_games() -> Vec<u8> {
     writer.ball(80);
     writer.straight(0, 1, 100, &[1]);
     writer.lucky_last(1, 100, 100, &[1]);
-    writer.draw_from(&balls);
-    // Past the last game.
+    match last_game {
+        LastGame::Drawn => writer.draw_from(&balls),
+        LastGame::CalledOff => drop(writer.call_off()),
+    }
+    past_the_last_game(&mut writer);
+    writer.finish()
+}
+
+fn past_the_last_game(writer: &mut RollWriter) {
+    writer.call_off();
     for number in [0, 81, 1, 80] {
         writer.ball(number);
     }
+    writer.call_off();
     for games in [1, 0] {
         writer.straight(0, games, 100, &[1]);
         writer.lucky_last(games, 100, 100, &[1]);
@@ -111,5 +137,4 @@ fn last_games() -> Vec<u8> {
     writer.expire();
     writer.transfer(6, 1);
     writer.claim(1);
-    writer.finish()
 }

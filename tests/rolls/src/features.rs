@@ -1,7 +1,7 @@
 //! What became of features in the games of a set of rolls: won and missed, in paid
 //! and in free games, with the game's major prizes cut and not.
 
-use reference::command::length;
+use reference::roll::commands;
 use reference::{Command, House, Standing};
 
 /// Drawn games of tickets with a feature, counted.
@@ -31,14 +31,13 @@ impl Features {
     /// counts every game that is drawn.
     pub fn count_roll(&mut self, roll: &[u8]) {
         let mut house = House::fresh();
-        let mut unread = roll;
-        while let Some(bytes) = unread.first().and_then(|&byte| unread.get(..length(byte)?)) {
+        for command in commands(roll) {
             let game = house.game();
-            house.command(&Command::decode(bytes));
-            if house.game() != game {
+            house.command(&command);
+            // A game that is called off is not drawn.
+            if house.game() != game && command != Command::CallOff {
                 self.count_last_game(&house);
             }
-            unread = &unread[bytes.len()..];
         }
     }
 

@@ -13,6 +13,7 @@
 //! | Lucky Last, as asked since                   | [`lucky_last`] |
 //! | Odd jackpot cents by stake, as asked since   | [`odd_cents`]  |
 //! | Collecting part way, as asked since          | [`collecting`] |
+//! | A game called off, as asked since            | [`calling_off`], [`mixed`] |
 //! | All of it at once, refusals included         | [`mixed`]      |
 //! | The roll, when it is damaged or cut off      | [`damaged`]    |
 //! | The limits of 9,999,999                      | [`far_games`], [`far_tickets`] |
@@ -20,7 +21,10 @@
 //! | Every outcome of a feature is met            | [`features`]   |
 //! | Who shares a jackpot, and its odd cents      | [`sharing`]    |
 //! | Every outcome of a collection is met         | [`collections`] |
+//! | Every outcome of a game called off is met    | [`calls_off`]  |
 
+pub mod calling_off;
+pub mod calls_off;
 pub mod collecting;
 pub mod collections;
 pub mod coverage;
@@ -31,6 +35,7 @@ pub mod features;
 pub mod lucky_last;
 pub mod mixed;
 pub mod odd_cents;
+pub mod outcomes;
 pub mod random;
 pub mod scenarios;
 pub mod shapes;
@@ -38,10 +43,12 @@ pub mod sharing;
 pub mod sweeps;
 pub mod writer;
 
+pub use calls_off::CallsOff;
 pub use collections::Collections;
 pub use coverage::Coverage;
 pub use far_games::FarGames;
 pub use features::Features;
+pub use outcomes::Outcomes;
 pub use random::Random;
 pub use sharing::Sharing;
 pub use writer::RollWriter;
@@ -82,6 +89,12 @@ pub fn everything(seed: u64) -> Vec<NamedRoll> {
         ("collections in a row", collecting::in_a_row(seed)),
         ("collections of 200", collecting::two_hundred(seed)),
         ("collections of jackpots", collecting::jackpots(seed)),
+        ("called off", calling_off::moments(seed)),
+        ("called off up to the free games", calling_off::free_games(seed)),
+        ("called off in a row", calling_off::in_a_row(seed)),
+        ("called off with 200", calling_off::two_hundred(seed)),
+        ("called off between jackpots", calling_off::jackpots(seed)),
+        ("called off among all", mixed::often_called_off(seed, 10, 1_000)),
         ("mixed", mixed::mixed_set(seed, 60, 1_000)),
         ("overlong", mixed::overlong(seed)),
         ("damaged", damaged::damaged_set(seed, 120)),

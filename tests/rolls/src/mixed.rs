@@ -16,6 +16,12 @@ const FAVOURED: usize = 24;
 /// Every so many rolls, one begins with a full lounge.
 const RUSH_EVERY: usize = 10;
 
+/// So many of a hundred steps call the game off, so that most games are drawn.
+const CALLED_OFF: u64 = 2;
+
+/// The same in a lounge with an alarm every few minutes.
+const OFTEN_CALLED_OFF: u64 = 12;
+
 /// Years from which the next leap year is not far, or 2100, which is none.
 const EARLY_YEARS: [u32; 3] = [1999, 2000, 2003];
 const LATE_YEARS: [u32; 3] = [2098, 2099, 2103];
@@ -23,9 +29,18 @@ const LATE_YEARS: [u32; 3] = [2098, 2099, 2103];
 /// Rolls of so many commands, each with a seed of its own; every tenth begins
 /// with a rush of guests.
 pub fn mixed_set(seed: u64, rolls: usize, commands: usize) -> Vec<Vec<u8>> {
+    set(seed, rolls, commands, CALLED_OFF)
+}
+
+/// The same with many games called off.
+pub fn often_called_off(seed: u64, rolls: usize, commands: usize) -> Vec<Vec<u8>> {
+    set(seed ^ 0x0FF, rolls, commands, OFTEN_CALLED_OFF)
+}
+
+fn set(seed: u64, rolls: usize, commands: usize, called_off: u64) -> Vec<Vec<u8>> {
     let mut random = Random::new(seed);
     let one_roll = |index: usize| {
-        let mut lounge = Lounge::new(random.bits());
+        let mut lounge = Lounge { called_off, ..Lounge::new(random.bits()) };
         if index % RUSH_EVERY == RUSH_EVERY - 1 {
             lounge.rush();
         }
@@ -59,13 +74,15 @@ struct Lounge {
     random: Random,
     /// 1 to 80, the favoured first.
     numbers: Vec<u8>,
+    /// Of a hundred steps on an open day.
+    called_off: u64,
 }
 
 impl Lounge {
     fn new(seed: u64) -> Lounge {
         let mut random = Random::new(seed);
         let numbers = random.numbers();
-        Lounge { writer: RollWriter::new(), random, numbers }
+        Lounge { writer: RollWriter::new(), random, numbers, called_off: CALLED_OFF }
     }
 
     fn work(mut self, commands: usize) -> Vec<u8> {
@@ -95,6 +112,7 @@ impl Lounge {
         match self.random.below(100) {
             0..=29 if closed => self.open(),
             _ if closed => self.anything(),
+            _ if self.random.percent(self.called_off) => drop(self.writer.call_off()),
             0..=29 => self.sell(),
             30..=38 => self.cancel(),
             39..=62 => self.balls(),
@@ -247,7 +265,7 @@ impl Lounge {
     fn collect(&mut self) {
         let finished = self.random.percent(10);
         let number =
-            self.pick_ticket(|ticket| ticket.won() > 0 && ticket.is_finished() == finished);
+            self.pick_ticket(|ticket| ticket.due() > 0 && ticket.is_finished() == finished);
         self.writer.collect(number);
     }
 
@@ -307,7 +325,7 @@ impl Lounge {
 
     /// A known command with whatever operands.
     fn anything(&mut self) {
-        let byte = self.random.between(1, 9) as u8;
+        let byte = self.random.between(1, 10) as u8;
         let length = reference::command::length(byte).expect("a known command");
         let mut bytes: Vec<u8> = (0..length).map(|_| self.random.byte()).collect();
         bytes[0] = byte;

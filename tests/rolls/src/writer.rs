@@ -129,15 +129,31 @@ impl RollWriter {
         self.give(&Command::Collect { ticket })
     }
 
+    pub fn call_off(&mut self) -> Answer {
+        self.give(&Command::CallOff)
+    }
+
     /// The live tickets that can collect: something is due, and games are left.
     pub fn collectable(&self) -> Vec<u32> {
         let live = self.house.live_tickets();
-        let can_collect = live.filter(|ticket| !ticket.is_finished() && ticket.won() > 0);
+        let can_collect = live.filter(|ticket| !ticket.is_finished() && ticket.due() > 0);
         can_collect.map(|ticket| ticket.number).collect()
     }
 
     pub fn transfer(&mut self, jackpot: u8, cents: u32) -> Answer {
         self.give(&Command::Transfer { jackpot, cents })
+    }
+
+    /// Draws until so many balls are in, taking those of the list that are not.
+    pub fn draw_some(&mut self, numbers: &[u8], balls_in: usize) {
+        for &number in numbers {
+            if self.house.balls().len() >= balls_in {
+                return;
+            }
+            if !self.house.balls().contains(&number) {
+                self.ball(number);
+            }
+        }
     }
 
     /// Draws what is missing of the current game, taking the balls in the order

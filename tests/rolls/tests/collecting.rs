@@ -1,38 +1,18 @@
 //! Each scenario of collections leads where it says it does.
 
-use reference::command::{length, CANCEL, COLLECT, LUCKY_LAST, SELL};
-use reference::{Answer, Closing, Command, House};
-use rolls::{collecting, far_tickets, Collections};
+mod answers;
+
+use answers::{count, run, run_on};
+use reference::command::{CANCEL, COLLECT, LUCKY_LAST, SELL};
+use reference::{Closing, Command, House};
+use rolls::{collecting, far_tickets, Collections, Outcomes};
 
 const SEED: u64 = 1998;
 
-/// The answers to a roll, and the house after it.
-fn run_on(mut house: House, roll: &[u8]) -> (House, Vec<(Command, Answer)>) {
-    let mut answers = Vec::new();
-    let mut unread = roll;
-    while !unread.is_empty() {
-        let (bytes, rest) = unread.split_at(length(unread[0]).expect("a known command"));
-        let command = Command::decode(bytes);
-        let answer = house.command(&command);
-        answers.push((command, answer));
-        unread = rest;
-    }
-    (house, answers)
-}
-
-fn run(roll: &[u8]) -> (House, Vec<(Command, Answer)>) {
-    run_on(House::fresh(), roll)
-}
-
-fn count(answers: &[(Command, Answer)], byte: u8, code: u8) -> usize {
-    let of = |(command, answer): &&(Command, Answer)| (command.byte(), answer.code) == (byte, code);
-    answers.iter().filter(of).count()
-}
-
-fn collected(rolls: &[Vec<u8>]) -> Collections {
+fn collected(rolls: &[Vec<u8>]) -> Outcomes {
     let mut collections = Collections::default();
     rolls.iter().for_each(|roll| collections.count_roll(roll));
-    collections
+    collections.outcomes
 }
 
 /// Of eight moments two come before anything is due and one when nothing is left.

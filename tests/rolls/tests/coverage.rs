@@ -1,12 +1,12 @@
 //! Every refusal and every stop is met by the rolls, in numbers that mean
 //! something.
 
-use reference::command::{BALL, CLAIM, COLLECT, LUCKY_LAST, SELL};
+use reference::command::{BALL, CALL_OFF, CLAIM, COLLECT, LUCKY_LAST, SELL};
 use reference::House;
 use rolls::coverage::FAR_CODES;
 use rolls::{
-    collecting, damaged, everything, far_tickets, mixed, odd_cents, scenarios, Collections,
-    Coverage, FarGames, Features,
+    calling_off, collecting, damaged, everything, far_tickets, mixed, odd_cents, scenarios,
+    CallsOff, Collections, Coverage, FarGames, Features,
 };
 
 const SEED: u64 = 1998;
@@ -41,6 +41,7 @@ fn mixed_rolls_alone() {
     assert!(coverage.answers(CLAIM, 0) > 500);
     assert!(coverage.answers(LUCKY_LAST, 0) > 500);
     assert!(coverage.answers(COLLECT, 0) > 500);
+    assert!(coverage.answers(CALL_OFF, 0) > 500);
 }
 
 /// With the far rolls every code from 4 to 35 is met, but for 24, which no ticket can be
@@ -54,7 +55,7 @@ fn every_code_from_4_to_35_with_the_far_rolls() {
     let mut house = House::seasoned(1, 0, far_tickets::CANCELLED);
     coverage.count_roll(&mut house, &far_tickets::last_collections(), 100);
     coverage.check(&[]).unwrap();
-    let is_met = |code: &u8| (1..=9).any(|command| coverage.answers(command, *code) > 0);
+    let is_met = |code: &u8| (1..=10).any(|command| coverage.answers(command, *code) > 0);
     let met: Vec<u8> = (1..=255).filter(is_met).collect();
     let codes = (4..=35).filter(|code| ![24, 30].contains(code));
     assert_eq!(met, codes.collect::<Vec<u8>>());
@@ -66,11 +67,24 @@ fn every_code_from_4_to_35_with_the_far_rolls() {
 fn every_outcome_of_a_collection_is_met() {
     let mut collections = Collections::default();
     everything(SEED).iter().for_each(|roll| collections.count_roll(&roll.bytes));
-    assert_eq!(collections.missing(), [""; 0]);
+    assert_eq!(collections.outcomes.missing(), [""; 0]);
     let mut collections = Collections::default();
     mixed::mixed_set(SEED, 60, 1_000).iter().for_each(|roll| collections.count_roll(roll));
     let is_set_up = |outcome: &&str| *outcome == "with 200 live tickets";
-    assert!(collections.missing().iter().all(is_set_up), "{collections:?}");
+    assert!(collections.outcomes.missing().iter().all(is_set_up), "{collections:?}");
+}
+
+/// Of games called off, of the tickets in them and of what becomes of those; and on the
+/// mixed rolls alone all but a full lounge.
+#[test]
+fn every_outcome_of_a_game_called_off_is_met() {
+    let mut calls_off = CallsOff::default();
+    everything(SEED).iter().for_each(|roll| calls_off.count_roll(&roll.bytes));
+    assert_eq!(calls_off.outcomes.missing(), [""; 0]);
+    let mut calls_off = CallsOff::default();
+    mixed::often_called_off(SEED, 60, 1_000).iter().for_each(|roll| calls_off.count_roll(roll));
+    let is_set_up = |outcome: &&str| *outcome == "with 200 live tickets";
+    assert!(calls_off.outcomes.missing().iter().all(is_set_up), "{calls_off:?}");
 }
 
 /// Features are won and missed in paid and in free games, with cuts beside them
@@ -90,13 +104,17 @@ fn a_missing_code_is_named() {
     assert!(found.contains("command 3 with code 20"));
     assert!(found.contains("command 8 with code 31"));
     assert!(found.contains("command 9 with code 34"));
+    assert!(found.contains("command 10 with code 4"));
     assert!(found.contains("stop 3"));
     let mut features = Features::default();
     features.count_roll(&roll);
     assert_eq!(features.missing().len(), 8);
     let mut collections = Collections::default();
     collections.count_roll(&roll);
-    assert_eq!(collections.missing().len(), 21);
+    assert_eq!(collections.outcomes.missing().len(), 21);
+    let mut calls_off = CallsOff::default();
+    calls_off.count_roll(&roll);
+    assert_eq!(calls_off.outcomes.missing().len(), 31);
 }
 
 #[test]
@@ -106,5 +124,6 @@ fn the_same_seed_makes_the_same_rolls() {
     assert_eq!(scenarios::crowded_cuts(SEED), scenarios::crowded_cuts(SEED));
     assert_eq!(odd_cents::winners(SEED), odd_cents::winners(SEED));
     assert_eq!(collecting::in_a_row(SEED), collecting::in_a_row(SEED));
+    assert_eq!(calling_off::in_a_row(SEED), calling_off::in_a_row(SEED));
     assert_ne!(mixed::mixed(1, 100), mixed::mixed(2, 100));
 }

@@ -1,6 +1,6 @@
 //! Two hundred million balls to the last game, where codes 17 and 26 are.
 
-use reference::command::{BALL, LUCKY_LAST, SELL};
+use reference::command::{BALL, CALL_OFF, LUCKY_LAST, SELL};
 use reference::roll::ANSWER_BYTES;
 use reference::{run_roll, House};
 use rolls::{Coverage, FarGames};
@@ -32,5 +32,6 @@ fn the_last_games() {
     assert!(coverage.answers(LUCKY_LAST, 17) >= 5);
     assert_eq!(coverage.answers(BALL, 26), 2);
     assert_eq!(coverage.answers(BALL, 25), 2);
+    assert_eq!((coverage.answers(CALL_OFF, 0), coverage.answers(CALL_OFF, 26)), (1, 2));
     assert_eq!(coverage.impossible(), [""; 0]);
 }

@@ -4,7 +4,7 @@
 
 use reference::ledger::{ledger, ledger_of};
 use reference::{Flaw, House};
-use rolls::{collecting, lucky_last, mixed, odd_cents, scenarios};
+use rolls::{calling_off, collecting, lucky_last, mixed, odd_cents, scenarios};
 
 const SEED: u64 = 1998;
 
@@ -44,6 +44,15 @@ fn scenarios_find_their_flaws() {
         (Flaw::ReissuedFreeGamesAnew, collecting::in_a_row(SEED)),
         (Flaw::ReissuedWithoutGameBeingDrawn, collecting::moments(SEED)),
         (Flaw::ReissuedWithoutGameBeingDrawn, collecting::two_hundred(SEED)),
+        (Flaw::FreeGameGivenBack, calling_off::free_games(SEED)),
+        (Flaw::CalledOffGamePools, calling_off::moments(SEED)),
+        (Flaw::CalledOffGamePools, calling_off::jackpots(SEED)),
+        (Flaw::CalledOffBallsStay, calling_off::moments(SEED)),
+        (Flaw::CalledOffBallsStay, calling_off::two_hundred(SEED)),
+        (Flaw::CalledOffNumberStays, calling_off::moments(SEED)),
+        (Flaw::CalledOffNumberStays, calling_off::in_a_row(SEED)),
+        (Flaw::CalledOffStakesStayHeld, calling_off::moments(SEED)),
+        (Flaw::CalledOffStakesStayHeld, calling_off::free_games(SEED)),
     ];
     for (flaw, rolls) in sets {
         assert!(finds(flaw, &rolls), "{flaw:?}");

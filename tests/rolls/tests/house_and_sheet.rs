@@ -1,8 +1,9 @@
 //! Demand 3 on every roll: house and count sheet agree, the till balances,
 //! refused commands might as well not have been given, no ticket number is paid twice, by
-//! a claim or by a collection, and it is paid what its own games have won.
+//! a claim or by a collection, and it is paid what its own games have won and what was paid
+//! for those called off.
 
-use reference::command::length;
+use reference::roll::commands;
 use reference::till::balances;
 use reference::{Cents, Command, CountSheet, House};
 use rolls::{everything, NamedRoll};
@@ -10,33 +11,27 @@ use std::collections::HashMap;
 
 const SEED: u64 = 1998;
 
-/// The commands of a roll up to where it must stop.
-fn commands(roll: &[u8]) -> Vec<Command> {
-    let mut commands = Vec::new();
-    let mut unread = roll;
-    while let Some(bytes) = unread.first().and_then(|&byte| unread.get(..length(byte)?)) {
-        commands.push(Command::decode(bytes));
-        unread = &unread[bytes.len()..];
-    }
-    commands
-}
-
 fn check(roll: &NamedRoll) {
     let mut house = House::fresh();
     let mut only_accepted = House::fresh();
     let mut sheet = CountSheet::fresh();
     let mut paid = HashMap::new();
-    for (place, command) in commands(&roll.bytes).iter().enumerate() {
+    for (place, command) in commands(&roll.bytes).enumerate() {
         let at = || format!("{}, command {place}: {command:?}", roll.name);
-        let answer = house.command(command);
-        let counted = sheet.feed(command, answer.code);
+        let before = (command == Command::CallOff).then(|| (house.game(), house.till()));
+        let answer = house.command(&command);
+        let counted = sheet.feed(&command, answer.code);
         assert_eq!((answer.number, Cents::from(answer.cents)), counted, "{}", at());
         if answer.code != 0 {
             continue;
         }
-        assert_eq!(only_accepted.command(command), answer, "{}", at());
+        assert_eq!(only_accepted.command(&command), answer, "{}", at());
+        if let Some((game, till)) = before {
+            assert_eq!((answer.number, house.game()), (game, game + 1), "{}", at());
+            assert_eq!(house.till(), after_call_off(till, answer.cents.into()), "{}", at());
+        }
         if let Command::Claim { ticket } | Command::Collect { ticket } = command {
-            let before = paid.insert(*ticket, Cents::from(answer.cents));
+            let before = paid.insert(ticket, Cents::from(answer.cents));
             assert_eq!(before, None, "{}: paid twice", at());
         }
         // Half of all commands are balls that settle nothing; what one of them
@@ -48,10 +43,17 @@ fn check(roll: &NamedRoll) {
     assert!(house == only_accepted, "{}: a refused command left a trace", roll.name);
     compare_tills(&house, &sheet, || roll.name.clone());
     for (ticket, cents) in paid {
-        let won = house.tickets()[ticket as usize - 1].won();
-        assert_eq!(cents, won, "{}: ticket {ticket}", roll.name);
+        let due = house.tickets()[ticket as usize - 1].due();
+        assert_eq!(cents, due, "{}: ticket {ticket}", roll.name);
     }
     each_game_has_one_number(&house, &roll.name);
+}
+
+/// The cents go from held to owed, and nothing else moves.
+fn after_call_off(mut till: [Cents; 9], cents: Cents) -> [Cents; 9] {
+    till[4] += cents;
+    till[5] -= cents;
+    till
 }
 
 /// The games of a sale, one after another, and of the numbers that collections made of

@@ -72,7 +72,7 @@ fn a_whole_journal_comes_back() {
     let sitting = sitting(&rolls());
     assert!(sitting.bytes.len() > 5_000, "{} bytes", sitting.bytes.len());
     comes_back(&sitting.bytes, sitting.ends.last());
-    assert_eq!(opened(&sitting.bytes).unwrap().expect("a header").commands, 442);
+    assert_eq!(opened(&sitting.bytes).unwrap().expect("a header").commands, 481);
 }
 
 /// Every bit, in the header, in lengths, in checksums and in commands, of the first
@@ -175,7 +175,7 @@ fn garbage_is_refused() {
 #[test]
 fn an_append_of_no_commands_is_refused() {
     let header = format::header();
-    for commands in [&[1, 0, 1, 10][..], &[1, 0, 1, 4], &[0]] {
+    for commands in [&[1, 0, 1, 11][..], &[1, 0, 1, 4], &[0]] {
         let (append, _) = format::append(format::first_chain(), commands);
         is_refused(&[&header[..], &append].concat(), "an append of no commands");
         // Cut off before a byte that tells, it is torn; behind it, it is refused.

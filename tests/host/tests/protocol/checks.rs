@@ -67,6 +67,7 @@ fn read_back(bytes: &[u8]) -> String {
             ("Transfer", Command::Transfer { jackpot, cents: value("cents", 4) })
         }
         Command::Collect { .. } => ("Collect", Command::Collect { ticket: value("ticket", 4) }),
+        Command::CallOff => ("Call off", Command::CallOff),
     };
     if found == expected {
         return name.to_string();
@@ -121,11 +122,11 @@ pub fn stops(document: &Document) -> Checked {
         same("stop", row[1], stop.to_string().as_str())?;
     }
     for (roll, room) in
-        [(&[][..], 0), (&[10], 0), (&[10], 14), (&[1, 0], 0), (&[1, 0], 14), (&[6], 13)]
+        [(&[][..], 0), (&[11], 0), (&[11], 14), (&[1, 0], 0), (&[1, 0], 14), (&[6], 13)]
     {
         let holds = |why: &str| match why {
             "the end of the roll" => roll.is_empty(),
-            "a byte that is no command's" => roll.first() == Some(&10),
+            "a byte that is no command's" => roll.first() == Some(&11),
             "a command that is cut off" => roll == [1, 0],
             _ => room < ANSWER_BYTES,
         };

@@ -19,7 +19,7 @@ struct Example {
 
 pub fn worked(document: &Document) -> Checked {
     let blocks = document.blocks("hex");
-    same("examples", blocks.len(), 4)?;
+    same("examples", blocks.len(), 5)?;
     for block in blocks {
         let (house, lounge) = (House::fresh(), Lounge::fresh());
         let mut example = Example { house, lounge, answer: None };

@@ -77,7 +77,7 @@ fn another_order_is_seen() {
             tried += 1;
         }
     }
-    assert_eq!(tried, 1 + 11 + 5 + 3 + 4 + 3 + 13 + 5);
+    assert_eq!(tried, 1 + 11 + 5 + 3 + 4 + 3 + 13 + 5 + 1);
 }
 
 /// And the numbers of a live list.
@@ -123,6 +123,7 @@ fn other_names_are_seen() {
         ("marks 80, feature stake 4", "feature stake 4, marks 80"),
         ("| 08 | Lucky Last |", "| 08 | Sell |"),
         ("| 09 | Collect |", "| 09 | Claim |"),
+        ("| 0A | Call off |", "| 0A | Expire |"),
         ("| the ticket numbers are used up |", "| the ticket is used up |"),
         ("| number |", "| cents |"),
         ("| paid | claims", "| refunded | claims"),

@@ -11,7 +11,7 @@ use std::collections::BTreeSet;
 use std::sync::OnceLock;
 
 /// The commands by their bytes, and what is no command.
-const ASKED: [&str; 10] = [
+const ASKED: [&str; 11] = [
     "Open",
     "Sell",
     "Cancel",
@@ -21,11 +21,12 @@ const ASKED: [&str; 10] = [
     "Transfer",
     "Lucky Last",
     "Collect",
+    "Call off",
     "Live list",
 ];
 
 /// Neighbours in an order that never hold together.
-const APART: [(u8, u8); 5] = [(18, 19), (19, 23), (23, 24), (26, 27), (33, 34)];
+const APART: [(u8, u8); 6] = [(4, 26), (18, 19), (19, 23), (23, 24), (26, 27), (33, 34)];
 
 /// A command that was given: its byte, the refusals that hold, and its code.
 #[derive(PartialEq, Eq, PartialOrd, Ord)]
@@ -106,7 +107,21 @@ fn houses() -> Vec<House> {
         full.straight(0, 1, 100, &[1]);
     }
     houses.push(full.house().clone());
+    houses.push(a_game_called_off());
     houses
+}
+
+/// Tickets 1 to 4: one whose only game was called off, one with games left, a Keno To Go that
+/// began with it, and one that was sold while it was drawn and waits.
+fn a_game_called_off() -> House {
+    let mut writer = RollWriter::opened();
+    for games in [1, 2, 50] {
+        writer.straight(0, games, 100, &[1]);
+    }
+    writer.ball(1);
+    writer.straight(0, 50, 100, &[1]);
+    writer.call_off();
+    writer.house().clone()
 }
 
 /// Tickets 1 to 9: claimed, two that are due, a Keno To Go of an earlier day, one of
@@ -134,7 +149,7 @@ fn tickets_of_every_sort(drawing: bool) -> House {
 }
 
 fn other_commands() -> Vec<Command> {
-    let mut commands = vec![Command::Expire];
+    let mut commands = vec![Command::Expire, Command::CallOff];
     commands.extend([0, 1, 2, 3, 7].map(|day| Command::Open { day }));
     commands.extend([0, 1, 2, 80, 81, 255].map(|number| Command::Ball { number }));
     for ticket in (0..=10).chain([House::LAST_TICKET, u32::MAX]) {
@@ -200,6 +215,7 @@ fn holding(house: &House, command: &Command) -> BTreeSet<u8> {
             (27, house.balls().contains(number)),
         ],
         Command::Expire => Vec::new(),
+        Command::CallOff => vec![(26, house.game() > House::LAST_GAME)],
         Command::Transfer { jackpot, cents } => vec![
             (28, *jackpot != 6 && *jackpot != 8),
             (6, house.is_drawing()),
@@ -260,7 +276,7 @@ fn of_a_claim(house: &House, number: u32) -> Vec<(u8, bool)> {
     let mut told = of_a_number(house, number);
     if let Some(ticket) = ticket(house, number) {
         let is_over = ticket.is_finished() && ticket.is_live();
-        told.extend([(23, !ticket.is_finished()), (24, is_over && ticket.won() == 0)]);
+        told.extend([(23, !ticket.is_finished()), (24, is_over && ticket.due() == 0)]);
     }
     told
 }
@@ -269,7 +285,7 @@ fn of_a_collection(house: &House, number: u32) -> Vec<(u8, bool)> {
     let mut told = of_a_number(house, number);
     told.push((35, house.issued() >= House::LAST_TICKET));
     if let Some(ticket) = ticket(house, number) {
-        told.extend([(33, ticket.is_finished()), (34, ticket.is_live() && ticket.won() == 0)]);
+        told.extend([(33, ticket.is_finished()), (34, ticket.is_live() && ticket.due() == 0)]);
     }
     told
 }
@@ -286,7 +302,8 @@ fn ticket(house: &House, number: u32) -> Option<&Ticket> {
     house.tickets().iter().find(|ticket| ticket.number == number)
 }
 
-/// A ticket that was reissued has begun, whichever games are left.
+/// A ticket that was reissued has begun, whichever games are left, and one whose first game
+/// was drawn or called off.
 fn has_begun(house: &House, ticket: &Ticket) -> bool {
     let first = ticket.first_game();
     !ticket.is_sold() || first < house.game() || first == house.game() && house.is_drawing()

@@ -64,7 +64,8 @@ fn look_alikes(number: u32) -> impl Iterator<Item = u32> {
     beside.into_iter().map(move |more| number + more)
 }
 
-/// Tickets that are waiting, running, due, claimed, cancelled, collected and reissued.
+/// Tickets that are waiting, running, due, claimed, cancelled, collected and reissued, and
+/// one whose only game was called off.
 fn tickets() -> Vec<u8> {
     let mut writer = RollWriter::opened();
     for games in [1, 1, 1, 2, 50, 3] {
@@ -75,15 +76,17 @@ fn tickets() -> Vec<u8> {
     writer.claim(2);
     writer.straight(0, 1, 100, &[1]);
     writer.collect(6);
+    writer.call_off();
+    writer.straight(0, 1, 100, &[1]);
     writer.ball(80);
-    for number in 0..=9 {
+    for number in 0..=10 {
         for ticket in look_alikes(number).skip(1) {
             writer.cancel(ticket);
             writer.claim(ticket);
             writer.collect(ticket);
         }
     }
-    for number in 0..=9 {
+    for number in 0..=10 {
         writer.collect(number);
         writer.cancel(number);
         writer.claim(number);

@@ -32,7 +32,7 @@ fn lucky_roll(random: &mut Random) -> Vec<u8> {
         for _ticket in 0..tickets {
             lucky_ticket(&mut writer, random, &guests);
         }
-        writer.balls(&guests.numbers[..20]);
+        draw_or_call_off(&mut writer, random, &guests);
         if random.percent(60) {
             writer.claim_last(tickets);
         }
@@ -46,6 +46,15 @@ fn lucky_roll(random: &mut Random) -> Vec<u8> {
         give_some_back(&mut writer, random);
     }
     writer.finish()
+}
+
+/// Now and then an alarm comes before the last ball, and the balls are those of the next game.
+fn draw_or_call_off(writer: &mut RollWriter, random: &mut Random, guests: &Guests) {
+    if random.percent(15) {
+        writer.balls(&guests.numbers[..random.between(0, 19) as usize]);
+        writer.call_off();
+    }
+    writer.balls(&guests.numbers[..20]);
 }
 
 /// A ticket on the balls, but for one number now and then.

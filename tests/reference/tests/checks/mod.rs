@@ -6,6 +6,7 @@
 // Each test file is a program of its own and uses its part of this.
 #![allow(dead_code)]
 
+pub mod calling_off;
 pub mod collecting;
 pub mod dates;
 pub mod examples;
@@ -22,7 +23,8 @@ pub type NamedCheck = (&'static str, fn(Flaw) -> Check);
 
 /// Every check, by name.
 pub fn all() -> Vec<NamedCheck> {
-    [examples::ALL, traps::ALL, dates::ALL, lucky_last::ALL, collecting::ALL].concat()
+    [examples::ALL, traps::ALL, dates::ALL, lucky_last::ALL, collecting::ALL, calling_off::ALL]
+        .concat()
 }
 
 pub fn expect<T: PartialEq + Debug>(what: &str, got: T, want: T) -> Check {
@@ -68,6 +70,7 @@ pub struct Desk {
     pub sheet: CountSheet,
     /// The first difference between house and sheet, if there was one.
     pub difference: Check,
+    is_flawed: bool,
 }
 
 impl Desk {
@@ -80,7 +83,8 @@ impl Desk {
 
     /// A house on day 0.
     pub fn closed(flaw: Flaw) -> Desk {
-        Desk { house: House::flawed(flaw), sheet: CountSheet::fresh(), difference: Ok(()) }
+        let (house, sheet) = (House::flawed(flaw), CountSheet::fresh());
+        Desk { house, sheet, difference: Ok(()), is_flawed: flaw != Flaw::None }
     }
 
     pub fn give(&mut self, command: &Command) -> Answer {
@@ -131,10 +135,14 @@ impl Desk {
         self.give(&Command::Ball { number })
     }
 
-    /// Draws the balls and gives the last one's answer.
+    /// Draws the balls and gives the last one's answer. A flawed house may refuse some, which
+    /// is then the difference.
     pub fn draw(&mut self, balls: &[u8]) -> Answer {
         let answers: Vec<Answer> = balls.iter().map(|&number| self.ball(number)).collect();
-        assert!(answers.iter().all(|answer| answer.code == 0), "balls refused: {answers:?}");
+        let refused = answers.iter().any(|answer| answer.code != 0);
+        let drawn = expect("balls refused", refused, false);
+        assert!(self.is_flawed || drawn.is_ok(), "balls refused: {answers:?}");
+        self.difference = self.difference.clone().and(drawn);
         *answers.last().expect("a ball")
     }
 
@@ -155,6 +163,10 @@ impl Desk {
 
     pub fn collect(&mut self, ticket: u32) -> Answer {
         self.give(&Command::Collect { ticket })
+    }
+
+    pub fn call_off(&mut self) -> Answer {
+        self.give(&Command::CallOff)
     }
 
     pub fn transfer(&mut self, jackpot: u8, cents: u32) -> Answer {

@@ -23,7 +23,7 @@ fn check_commands(roll: &[u8]) -> Result<(), String> {
     let mut at = 0;
     while at < roll.len() {
         let Some(length) = Command::length(roll[at]) else {
-            return Err(format!("byte {at}: expected a command, 01 to 09, not {:02X}", roll[at]));
+            return Err(format!("byte {at}: expected a command, 01 to 0A, not {:02X}", roll[at]));
         };
         let left = roll.len() - at;
         if left < length {

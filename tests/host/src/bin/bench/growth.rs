@@ -9,7 +9,9 @@ const LIVE: [u32; 3] = [1, 50, 200];
 
 pub fn cases() -> Vec<Case> {
     let sorts = [closed_claims, paid_claims, collections, balls, settlement::uncut];
-    sorts.into_iter().flat_map(|sort| LIVE.map(sort)).collect()
+    let mut cases: Vec<Case> = sorts.into_iter().flat_map(|sort| LIVE.map(sort)).collect();
+    cases.extend([1, 200].map(calls_off));
+    cases
 }
 
 /// Ticket 1 is closed, and so many others are live.
@@ -43,6 +45,19 @@ fn collections(live: u32) -> Case {
     let name = format!("collect, the oldest of up to {live}");
     let collect = |index| Command::Collect { ticket: index as u32 + 1 };
     Case::repeated(&name, writer.finish(), 0, live as usize, collect)
+}
+
+/// Games of so many tickets, each with a hundred, one after another up to the first free one.
+fn calls_off(live: u32) -> Case {
+    let mut writer = RollWriter::opened();
+    for _ticket in 0..live {
+        writer.straight(0, 100, 100, &[1]);
+    }
+    let name = match live {
+        1 => "call off, 1 ticket".to_string(),
+        _ => format!("call off, {live} tickets"),
+    };
+    Case::repeated(&name, writer.finish(), 0, 98, |_| Command::CallOff)
 }
 
 /// The first nineteen of the second game.
