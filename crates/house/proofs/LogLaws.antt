@@ -188,7 +188,8 @@ not_over (e ∷ log) g later = go (effect_in e) (not_over log g) later
     go (reissues k) rest later = rest later
     go drops rest later =
         let before = rest (omega arith) in
-        (before.0, rw (ne_eqb (game_of log) g (λ same. omega arith)) before.1)
+        let other : eqb (game_of log) g ≡ false = ne_eqb (game_of log) g (λ same. omega arith) in
+        (grind (arith, before.0, other), grind (arith, before.1, other))
 
 pub not_drawn : (log : Log) (g : ℕ) → game_of log ≤ g → drawn log g ≡ false
 not_drawn log g later = (not_over log g later).0

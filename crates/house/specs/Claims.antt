@@ -1,4 +1,5 @@
 -- "A ticket is sold for its first game and those after it, as many as its Sell names. A game is drawn once its twentieth accepted ball is in."
+-- And of the dues for a game called off: "a ticket's claim or collection pays them beside its prizes."
 -- What the list of commands, and the code that each was answered with, tells of games, tickets and payments. It is told by the effects of the
 -- accepted commands: a ticket is issued for a span of games or has games taken off, the twentieth ball draws a game, the rule book says what the
 -- game pays each ticket that runs in it, a game is called off and gives back what was paid for it, a ticket is paid what it has won and is given back, and a

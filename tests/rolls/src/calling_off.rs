@@ -184,11 +184,7 @@ fn free_games_of(random: &mut Random, games: u8, called_off: u64) -> Vec<u8> {
         let is_near_the_end = game + u32::from(called_off > 0) >= u32::from(games);
         let is_called_off = is_near_the_end || random.percent(called_off);
         end_game(&mut writer, &numbers[if hit { 0 } else { 40 }..], is_called_off);
-        for ticket in writer.collectable() {
-            if random.percent(15) {
-                writer.collect(ticket);
-            }
-        }
+        collect_some(&mut writer, random, 15);
     }
     writer.claim_last(writer.house().issued());
     writer.finish()
@@ -231,11 +227,7 @@ fn rows(random: &mut Random) -> Vec<u8> {
             }
             writer.call_off();
         }
-        for ticket in writer.collectable() {
-            if random.percent(30) {
-                writer.collect(ticket);
-            }
-        }
+        collect_some(&mut writer, random, 30);
         writer.cancel(random.between(1, writer.house().issued().into()) as u32);
         writer.draw_from(&numbers);
         writer.claim_last(6);
@@ -291,12 +283,17 @@ fn jackpots_of(random: &mut Random) -> Vec<u8> {
             writer.balls(&numbers[..random.pick(&[0, 6, 8, 19])]);
         }
         end_game(&mut writer, &numbers, is_called_off);
-        for ticket in writer.collectable() {
-            if random.percent(20) {
-                writer.collect(ticket);
-            }
-        }
+        collect_some(&mut writer, random, 20);
     }
     writer.claim_last(writer.house().issued());
     writer.finish()
+}
+
+/// So many of a hundred tickets that can be collected are.
+fn collect_some(writer: &mut RollWriter, random: &mut Random, percent: u64) {
+    for ticket in writer.collectable() {
+        if random.percent(percent) {
+            writer.collect(ticket);
+        }
+    }
 }
