@@ -30,6 +30,7 @@ pub mod CallsBalanced
 pub mod Reliance
 pub mod PartWay
 pub mod CalledOff
+pub mod FinishedDue
 pub mod DifferentBalls
 pub mod OddCentsByNumber
 pub mod Examples

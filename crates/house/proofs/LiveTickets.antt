@@ -1,6 +1,6 @@
 -- The house follows the ledger: after an accepted command the house's tickets are those of the ledger that are still live. A closed ticket,
 -- with no game left and nothing due, stays closed under every change, so that it makes no difference whether it was dropped before.
-use Prim.Native.Nat.{ℕ, ◌+◌, ◌≤◌, min}
+use Prim.Native.Nat.{ℕ, ◌+◌, ◌≤◌, ◌<◌, min}
 use native.Mathlib.Omega.{arith}
 use mathlib.Core.Path.{◌≡◌, refl, sym, ap, ◌∙◌}
 use mathlib.Core.Bool.{Bool, true, false, cond, not, ◌&&◌}
@@ -11,11 +11,12 @@ use Rattle.sale.specs.Lists.{keep}
 use Rattle.sale.specs.Checks.{Operands}
 use Rattle.house.specs.Tickets.{Ticket, runs_in, games_left, paid_stakes, is_finished, is_live, with_due, with_stop, with_finished_day}
 use Rattle.house.specs.Model.{Model, next_game, is_drawing}
-use Rattle.house.specs.Commands.{sold, sold_ticket, cancelled, cancel_stop, cancelled_ticket, settlement, stakes_paid, awarded, finished_on, tickets_after_game, game_settled, game_called_off, claimed, is_expired, expired, ticket_at, collected_ticket, reissued_ticket, collected, changed, still_live}
+use Rattle.house.specs.Commands.{sold, sold_ticket, cancelled, cancel_stop, cancelled_ticket, settlement, stakes_paid, awarded, finished_on, tickets_after_game, game_settled, game_called_off, claimed, is_expired, expired, ticket_at, has_ticket, collected_ticket, reissued_ticket, collected, changed, still_live}
 use Rattle.house.proofs.Ledger.{All, house_of, with_live, ended_tickets, cancelled_ledger, claimed_ledger, expired_ledger, collected_ledger, settled_ledger, called_off_ledger}
 use Rattle.house.proofs.ListLaws.{cond_either, keep_snoc, keep_within, keep_map_keep, keep_changed}
 use Rattle.house.proofs.RowLaws.{still_live_all}
 use Rattle.house.proofs.Refusals.{and_true}
+use Rattle.house.proofs.Numbered.{found_in}
 
 -- ---- closed tickets
 
@@ -31,6 +32,18 @@ closed_of game t e =
 
 pub not_live : (game : ℕ) (t : Ticket) → Closed game t → is_live game t ≡ false
 not_live game t h = rw (eq-eqb _ _ h.games, eq-eqb _ _ h.due)
+
+-- a live ticket that is finished is due something
+pub live_due : (game : ℕ) (t : Ticket) → is_live game t ≡ true → is_finished game t ≡ true → 0 < t.due
+live_due game t live finished = grind (arith, live, finished)
+
+-- so of the ticket that a number finds in a house where all are live
+pub found_due : (m : Model) (n : ℕ)
+    → All (λ t. is_live m.game t ≡ true) m.live
+    → has_ticket n m.live ≡ true
+    → is_finished m.game (ticket_at n m.live) ≡ true
+    → 0 < (ticket_at n m.live).due
+found_due m n alive here finished = live_due m.game _ (found_in n (λ t. is_live m.game t ≡ true) m.live alive here).0 finished
 
 pub live_with_games : (game : ℕ) (t : Ticket) → (games_left game t ≡ 0 → ⊥) → is_live game t ≡ true
 live_with_games game t h = rw (ne_eqb _ _ h)

@@ -64,21 +64,18 @@ module _ (n : ℕ) where
       go true e has = (h, eqb-true t.number n e)
       go false e has = rest has
 
-  found_kept : (P : Ticket → Type 0) (b : Bool) (t : Ticket) (ts : List Ticket) → P t
-      → (has_ticket n ts ≡ true → Located P ts)
-      → has_ticket n (cond b (t ∷ ts) ts) ≡ true
-      → Located P (cond b (t ∷ ts) ts)
-  found_kept P true t ts h rest = found_here P t ts h rest
-  found_kept P false t ts h rest = rest
+  -- what holds of every ticket holds of the one that is found,
+  pub found_in : (P : Ticket → Type 0) (ts : List Ticket) → All P ts → has_ticket n ts ≡ true → Located P ts
+  unfolding any
+  found_in P [] h has = absurd (false≢true has)
+  found_in P (t ∷ ts) h has = found_here P t ts h.0 (found_in P ts h.1) has
 
-  -- what holds of every ticket holds of the one that is found
+  -- of those too that pass a test
   pub found : (P : Ticket → Type 0) (p : Ticket → Bool) (ts : List Ticket)
       → All P ts
       → has_ticket n (keep p ts) ≡ true
       → P (ticket_at n (keep p ts)) × ((ticket_at n (keep p ts)).number ≡ n)
-  unfolding keep any
-  found P p [] h has = absurd (false≢true has)
-  found P p (t ∷ ts) h has = found_kept P (p t) t (keep p ts) h.0 (found P p ts h.1) has
+  found P p ts h = found_in P (keep p ts) (all_kept_lem P p ts h)
 
   -- a ticket of that number is the one that is found
   abbrev Only : List Ticket → Ticket → Type 0

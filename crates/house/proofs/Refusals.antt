@@ -68,6 +68,22 @@ append_passed (row ∷ rows) more h e =
     let q = append_passed rows more h.1 p.1 in
     (rw p.0 q.0, q.1)
 
+-- a last row that is not met where none before it is makes no difference
+pub row_unmet :
+    (rows : List (Bool × ℕ)) (last : Bool × ℕ)
+    → (first_met rows ≡ 0 → last.0 ≡ false)
+    → first_met (rows ++ (last ∷ [])) ≡ first_met rows
+unfolding first_met
+row_unmet [] last unmet = rw (unmet refl) refl
+row_unmet (row ∷ rows) last unmet = go row.0 unmet (row_unmet rows last)
+  where
+    go : (met : Bool)
+        → (cond met row.1 (first_met rows) ≡ 0 → last.0 ≡ false)
+        → ((first_met rows ≡ 0 → last.0 ≡ false) → first_met (rows ++ (last ∷ [])) ≡ first_met rows)
+        → cond met row.1 (first_met (rows ++ (last ∷ []))) ≡ cond met row.1 (first_met rows)
+    go true unmet below = refl
+    go false unmet below = below unmet
+
 -- ---- the operands of Sell
 
 pub record OperandsAccepted (o : Operands) : Type 0 where
@@ -151,7 +167,6 @@ pub record ClaimAccepted (m : Model) (n : ℕ) : Type 0 where
   pub issued : n ≤ m.issued
   pub here : has_ticket n m.live ≡ true
   pub finished : is_finished m.game (ticket_at n m.live) ≡ true
-  pub due : (ticket_at n m.live).due ≡ 0 → ⊥
 
 pub record CollectAccepted (m : Model) (n : ℕ) : Type 0 where
   pub opened : m.day ≡ 0 → ⊥
@@ -233,7 +248,6 @@ claim_accepted m n e =
       issued = ltb-false _ _ number.1;
       here = not-false _ p.1.1.0;
       finished = not-false _ p.1.1.1.0;
-      due = eqb-false _ _ p.1.1.1.1.0;
     }
 
 pub collect_accepted : (m : Model) (n : ℕ) → code_of m (collect n) ≡ 0 → CollectAccepted m n

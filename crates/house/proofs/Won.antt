@@ -19,7 +19,7 @@ use Rattle.house.specs.Sheet.{Sheet, stakes_of, total_at}
 use Rattle.house.specs.Till.{till_of}
 use Rattle.house.specs.Claims.{Log, Logged, sheet_of, Effect, nothing, issues, takes_off, reissues, effect_of, effect_in, Progress, progress_after, progress_of, game_of, next_of, Span, games_of, span_of, won_by, stake_in, given_back, payments_after, payments}
 use Rattle.house.proofs.Ledger.{house_of, cancelled_ledger, claimed_ledger, expired_ledger, collected_ledger, sheet_for, All, Orderly}
-use Rattle.house.proofs.LiveTickets.{next_game_least}
+use Rattle.house.proofs.LiveTickets.{found_due, next_game_least}
 use Rattle.house.proofs.ListLaws.{All-map, All-append}
 use Rattle.house.proofs.MoneyLaws.{all_of, all_from, map_same}
 use Rattle.house.proofs.SpanLaws.{stakes_of_game}
@@ -27,6 +27,7 @@ use Rattle.house.proofs.SheetFigures.{line_total}
 use Rattle.house.proofs.Refusals.{and_true, ClaimAccepted, claim_accepted, CollectAccepted, collect_accepted}
 use Rattle.house.proofs.Numbered.{all_both, Within, row_within, found, only}
 use Rattle.house.proofs.RowLists.{earlier_or_not}
+use Rattle.house.proofs.RowLaws.{still_live_all}
 use Rattle.house.proofs.LogLaws.{logged, and_false, span_has, games_cut, sheet_refused, effect_refused, SameTold, Untouched, untouched, gives_back, nothing_won, nothing_back, issued_span, taken_off_lem, number_paid, reissued_span, kept_span, number_collected}
 
 -- a ticket's due: what it has won and is given back, and it was not paid; or nothing, since it was moved when no game was left
@@ -249,7 +250,7 @@ due_told m log n orderly told has due = go dues' (earlier_or_not (span_of n log)
         absurd (due (omega (arith, is, nothing_won n log current, sym (line_back m log n orderly told has), nothing_back n log current (stakes_by t))))
     go (moved is none) when = absurd (due is)
 
--- so of the ticket that a claim is accepted for
+-- so of the ticket that a claim is accepted for: it is finished, and a house has live tickets alone, so that something is due
 pub claim_due : (m : Model) (log : Log) (n : ℕ)
     → Orderly m
     → Told m log
@@ -257,7 +258,8 @@ pub claim_due : (m : Model) (log : Log) (n : ℕ)
     → ((ticket_at n (house_of m).live).due ≡ won_by n log + given_back n log) × (payments n log ≡ 0)
 claim_due m log n orderly told accept =
     let facts = claim_accepted (house_of m) n accept in
-    let due = due_told m log n orderly told facts.here facts.due in
+    let some = found_due (house_of m) n (still_live_all m.game m.live) facts.here facts.finished in
+    let due = due_told m log n orderly told facts.here (λ none. omega (arith, none)) in
     (due.won, due.unpaid)
 
 pub claim_pays : (m : Model) (log : Log) (n : ℕ)
