@@ -20,8 +20,8 @@ use Rattle.prizes.specs.Settle.{prizes_by, full_by, winner_of, paid_for, majors_
 use Rattle.prizes.specs.LuckyLast.{lucky_last_row, lucky_last_cents, numbers_marked, lucky_last_prize}
 use Rattle.sale.specs.Kinds.{jackpot_by}
 use Rattle.calendar.specs.Calendar.{is_leap_year, month_length, next_day, date_of, month_days, year_days, day_of, a_year_on, is_later, has_expired}
-use Rattle.house.specs.Tickets.{runs_in, games_left, paid_stakes}
-use Rattle.house.specs.Commands.{changed, Command, open', sell, ball, claim, expire, collect, call_off, ticket_at, still_live, rows_of, code_of, opened, sold, settlement, awarded, game_settled, game_called_off, ball_entered, claimed, is_expired, expired, collected, act, reply, step}
+use Rattle.house.specs.Tickets.{runs_in, games_left, paid_stakes, keno_to_go_begun}
+use Rattle.house.specs.Commands.{changed, Command, open', sell, cancel, ball, claim, expire, collect, call_off, ticket_at, still_live, rows_of, code_of, opened, sold, settlement, awarded, game_settled, game_called_off, ball_entered, refund_of, cancelled, claimed, is_expired, expired, collected, act, reply, step}
 use Rattle.house.specs.Balance.{run, answer_after, next, run_from}
 
 -- a ticket of one way on the first numbers, with a feature or without one
@@ -97,8 +97,22 @@ off_with_ten = open' 1 ∷ first 0 3 1 100 ∷ map (λ n. ball (n + 1)) (below 1
 abbrev off_then_drawn : List Command
 off_then_drawn = open' 1 ∷ first 0 3 2 100 ∷ call_off ∷ drawn_from 1
 
+abbrev off : ℕ → ℕ → List Command
+off dropped games = open' 1 ∷ first 0 3 games 100 ∷ replicate dropped call_off
+
 abbrev all_off : ℕ → List Command
-all_off games = open' 1 ∷ first 0 3 games 100 ∷ replicate games call_off
+all_off games = off games games
+
+-- Tickets that finish with nothing due: in a drawn game that has none of the numbers, by a cancellation, and in a call-off of a free game, which a collection of what was
+-- given back for the 49 paid ones reissued.
+abbrev lost : List Command
+lost = game 41 (first 0 3 1 100 ∷ [])
+
+abbrev taken_off : List Command
+taken_off = open' 1 ∷ first 0 3 1 100 ∷ cancel 1 ∷ []
+
+abbrev free_game_off : List Command
+free_game_off = off 49 50 ++ (collect 1 ∷ call_off ∷ [])
 
 -- an answer's code, number and cents
 abbrev answered : List Command → Command → List ℕ
@@ -129,5 +143,8 @@ pub settled_examples :
     × (answered (off_with_ten ++ (call_off ∷ [])) (claim 1) ≡ 0 ∷ 1 ∷ 100 ∷ [])
     × (answered off_then_drawn (claim 1) ≡ 0 ∷ 1 ∷ 3700 ∷ [])
     × (pays_claim 1 (all_off 50) ≡ 4900)
-unfolding sum below keep every any member kind_of within mark_of size_of last_of hits_of by_group nominated ways mask_sum way_sizes paid_games minimum_stake stake_fits game_price charge first_met marks_fit operand_rows standard_rows cell dollars prize floor_count cut_base joins round_of rounds floored_of cut_prize payout contribution contributed winning_stakes share_of odd_cents each_way rank_among ranked odd_cents_at shares_with shares_from jackpot_won jackpot_shares seed_of reseeded repaid prizes_by full_by jackpot_by winner_of paid_for majors_of prizes_of lucky_last_row lucky_last_cents numbers_marked lucky_last_prize all_prizes_of settle_jackpot settle is_leap_year month_length next_day date_of month_days year_days day_of a_year_on is_later has_expired runs_in games_left paid_stakes ticket_at still_live rows_of code_of opened sold settlement awarded game_settled game_called_off ball_entered claimed is_expired expired collected act reply step next run_from changed ones ones_in zip_with
-settled_examples = (refl, refl, refl, refl, refl, refl, refl, refl, refl, refl, refl, refl, refl, refl, refl, refl, refl, refl, refl, refl, refl, refl, refl, refl)
+    × (answered lost (claim 1) ≡ 19 ∷ 0 ∷ 0 ∷ [])
+    × (answered taken_off (claim 1) ≡ 19 ∷ 0 ∷ 0 ∷ [])
+    × (answered free_game_off (claim 2) ≡ 19 ∷ 0 ∷ 0 ∷ [])
+unfolding sum below keep every any member kind_of within mark_of size_of last_of hits_of by_group nominated ways mask_sum way_sizes paid_games minimum_stake stake_fits game_price charge first_met marks_fit operand_rows standard_rows cell dollars prize floor_count cut_base joins round_of rounds floored_of cut_prize payout contribution contributed winning_stakes share_of odd_cents each_way rank_among ranked odd_cents_at shares_with shares_from jackpot_won jackpot_shares seed_of reseeded repaid prizes_by full_by jackpot_by winner_of paid_for majors_of prizes_of lucky_last_row lucky_last_cents numbers_marked lucky_last_prize all_prizes_of settle_jackpot settle is_leap_year month_length next_day date_of month_days year_days day_of a_year_on is_later has_expired runs_in games_left paid_stakes keno_to_go_begun ticket_at still_live rows_of code_of opened sold settlement awarded game_settled game_called_off ball_entered cancelled refund_of claimed is_expired expired collected act reply step next run_from changed ones ones_in zip_with
+settled_examples = (refl, refl, refl, refl, refl, refl, refl, refl, refl, refl, refl, refl, refl, refl, refl, refl, refl, refl, refl, refl, refl, refl, refl, refl, refl, refl, refl)

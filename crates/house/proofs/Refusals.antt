@@ -18,6 +18,7 @@ use Rattle.house.specs.Tickets.{is_finished, keno_to_go_begun}
 use Rattle.house.specs.Model.{Model, game_limit, live_limit, ticket_limit, is_drawing, next_game}
 use Rattle.house.specs.Commands.{sell, cancel, ball, claim, transfer, collect, call_off, ticket_at, has_ticket, cancel_stop, rows_of, code_of}
 use Rattle.house.proofs.Ledger.{All}
+use Rattle.house.proofs.ListLaws.{cond_either}
 
 -- ---- Bool tests
 
@@ -67,6 +68,12 @@ append_passed (row ∷ rows) more h e =
     let p = row_passed row.0 row.1 (first_met (rows ++ more)) h.0 e in
     let q = append_passed rows more h.1 p.1 in
     (rw p.0 q.0, q.1)
+
+-- what is answered is 0 or the number of a row
+pub among_rows : (P : ℕ → Type 0) (rows : List (Bool × ℕ)) → P 0 → All (λ row. P row.1) rows → P (first_met rows)
+unfolding first_met
+among_rows P [] none each = none
+among_rows P (row ∷ rows) none each = cond_either P row.0 each.0 (among_rows P rows none each.1)
 
 -- a last row that is not met where none before it is makes no difference
 pub row_unmet :

@@ -76,11 +76,8 @@ rows_of m (ball b) =
     ∷ (ltb game_limit m.game, 26)
     ∷ (member b m.balls, 27)
     ∷ []
-rows_of m (claim n) =
-    lookup_rows n m
-    ++ ((not (is_finished m.game (ticket_at n m.live)), 23)
-    ∷ (eqb (ticket_at n m.live).due 0, 24)
-    ∷ [])
+-- nothing asks whether something is due: a live ticket that is finished always is (finished_are_due in proofs/FinishedDue.antt)
+rows_of m (claim n) = lookup_rows n m ++ ((not (is_finished m.game (ticket_at n m.live)), 23) ∷ [])
 rows_of m expire = day_row m ∷ []
 rows_of m (transfer j cents) =
     day_row m

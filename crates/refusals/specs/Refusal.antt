@@ -1,7 +1,8 @@
--- "Refused by number": the number of each refusal, from the table of where each thing is checked.
+-- "Refused by number": the number of each refusal, from the table of where each thing is checked. 24 stood for a claim of a ticket with nothing due, which no list
+-- of commands leads to (house/proofs/FinishedDue.antt): "The number isn't used again."
 use Rattle.std.specs.Prelude.{ℕ, Result, Ok, Err}
 use Rattle.refusals.specs.declared.refusal.Refusal.{Refusal}
-use Rattle.refusals.specs.declared.refusal.Refusal.TheVariants.{NotOpen, DayNotLater, Drawing, UnknownKind, GamesOutOfRange, GroupsOutOfRange, UnfitMarks, UnfitTypes, UnfitWaySize, SingleSpecialOne, UnfitStake, ChargeOverLimit, LiveLimit, SaleLimit, NeverIssued, TicketClosed, SoldEarlier, KenoToGoBegun, NoGameToTakeOff, NotFinished, NothingDue, BallOutOfRange, GameLimit, BallAlreadyIn, UnknownJackpot, UnfitCents, BufferTooShort, UnfitFeature, UnfitFeatureStake, Finished, NothingDueYet, TicketLimit}
+use Rattle.refusals.specs.declared.refusal.Refusal.TheVariants.{NotOpen, DayNotLater, Drawing, UnknownKind, GamesOutOfRange, GroupsOutOfRange, UnfitMarks, UnfitTypes, UnfitWaySize, SingleSpecialOne, UnfitStake, ChargeOverLimit, LiveLimit, SaleLimit, NeverIssued, TicketClosed, SoldEarlier, KenoToGoBegun, NoGameToTakeOff, NotFinished, BallOutOfRange, GameLimit, BallAlreadyIn, UnknownJackpot, UnfitCents, BufferTooShort, UnfitFeature, UnfitFeatureStake, Finished, NothingDueYet, TicketLimit}
 
 abbrev pub refusal_number : Refusal → ℕ
 refusal_number NotOpen = 4
@@ -24,7 +25,6 @@ refusal_number SoldEarlier = 20
 refusal_number KenoToGoBegun = 21
 refusal_number NoGameToTakeOff = 22
 refusal_number NotFinished = 23
-refusal_number NothingDue = 24
 refusal_number BallOutOfRange = 25
 refusal_number GameLimit = 26
 refusal_number BallAlreadyIn = 27

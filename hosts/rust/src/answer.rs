@@ -144,7 +144,7 @@ impl Record {
         records.map(|bytes| Record::read(bytes.try_into().expect("a record's bytes")))
     }
 
-    /// What it says, or nothing where no house would write it.
+    /// What it says, or nothing where its code or its command is none.
     pub fn outcome(&self) -> Option<Result<Answer, Refusal>> {
         if self.code != 0 {
             return Refusal::from_number(self.code).map(Err);
@@ -164,5 +164,20 @@ impl Record {
             _ => return None,
         };
         Some(Ok(answer))
+    }
+}
+
+#[cfg(test)]
+mod tests {
+    use super::*;
+
+    #[test]
+    fn a_code_or_a_command_that_is_none_says_nothing() {
+        let of = |command, code| Record { command, code, number: 1, cents: 300 }.outcome();
+        assert_eq!(of(5, 0), Some(Ok(Answer::Claimed { ticket: 1, paid: 300 })));
+        assert_eq!(of(5, 23), Some(Err(Refusal::NotFinished)));
+        for (command, code) in [(5, 24), (5, 1), (5, 36), (5, 255), (0, 0), (11, 0)] {
+            assert_eq!(of(command, code), None, "command {command}, code {code}");
+        }
     }
 }

@@ -1,6 +1,8 @@
 //! A house with its tickets, safe to use.
 
-use crate::exported::{self, Core, Pools, Rows, RowsOfMarks, Till, ANSWER_BYTES, MARKS, WORDS};
+use crate::exported::{
+    self, Core, Listed, Pools, Rows, RowsOfMarks, Till, ANSWER_BYTES, MARKS, WORDS,
+};
 use crate::{Answer, Command, Record, Refusal, Stop};
 
 /// Bytes of a live list that no house outgrows.
@@ -105,11 +107,15 @@ impl Lounge {
     /// byte first, and answers how many there are; bytes beyond the list stay as
     /// they were. Refused, with nothing written, where `out` is too short.
     pub fn live_list(&self, out: &mut [u8]) -> Result<u32, Refusal> {
-        let listed = self.core.live_list(out);
-        match Refusal::from_number(listed.code) {
-            None => Ok(listed.count),
-            Some(refusal) => Err(refusal),
-        }
+        counted(self.core.live_list(out))
+    }
+}
+
+/// A code that is none is no list.
+fn counted(listed: Listed) -> Result<u32, Refusal> {
+    match listed.code {
+        0 => Ok(listed.count),
+        code => Err(Refusal::from_number(code).expect("the core answers in its own codes")),
     }
 }
 
@@ -151,5 +157,22 @@ impl Till {
         let mut figures = unsigned.map(i128::from);
         figures[8] = self.retained_cents();
         figures
+    }
+}
+
+#[cfg(test)]
+mod tests {
+    use super::*;
+
+    #[test]
+    fn a_list_or_its_refusal() {
+        assert_eq!(counted(Listed { code: 0, count: 7 }), Ok(7));
+        assert_eq!(counted(Listed { code: 30, count: 0 }), Err(Refusal::ShortBuffer));
+    }
+
+    #[test]
+    #[should_panic(expected = "the core answers in its own codes")]
+    fn a_code_that_is_none_is_no_list() {
+        counted(Listed { code: 24, count: 7 }).ok();
     }
 }

@@ -7,7 +7,8 @@ macro_rules! refusals {
     ($($name:ident = $number:literal, $sentence:literal;)*) => {
         /// Why a command is refused. A refused command changes nothing.
         ///
-        /// Each has the number that stands in the answer's code, and a sentence.
+        /// Each has the number that stands in the answer's code, and a sentence. 24 is not
+        /// used any more: it stood for a claim of a ticket with nothing due, which is closed.
         ///
         /// ```
         /// use wulipday::Refusal;
@@ -26,7 +27,7 @@ macro_rules! refusals {
 
         impl Refusal {
             /// All of them, by number.
-            pub const ALL: [Refusal; 32] = [$(Refusal::$name),*];
+            pub const ALL: [Refusal; 31] = [$(Refusal::$name),*];
 
             /// What it says, for people.
             pub fn sentence(self) -> &'static str {
@@ -59,7 +60,6 @@ refusals! {
     KenoToGoBegun = 21, "the ticket is a Keno To Go whose first game has begun";
     NoGameToTakeOff = 22, "the ticket has no game that can be taken off";
     NotFinished = 23, "the ticket has games left to draw";
-    NothingDue = 24, "nothing is due on the ticket";
     BallNumber = 25, "a ball has a number from 1 to 80";
     GamesUsedUp = 26, "the game numbers are used up";
     BallIn = 27, "the ball is in already";
@@ -98,12 +98,13 @@ mod tests {
     use super::*;
 
     #[test]
-    fn every_number_from_4_to_35() {
+    fn every_number_from_4_to_35_but_24() {
         let numbers: Vec<u8> = Refusal::ALL.iter().map(|refusal| refusal.number()).collect();
-        assert_eq!(numbers, (4..=35).collect::<Vec<u8>>());
+        assert_eq!(numbers, (4..=23).chain(25..=35).collect::<Vec<u8>>());
         for number in 0..=255 {
             let found = Refusal::from_number(number).map(Refusal::number);
-            assert_eq!(found, (4..=35).contains(&number).then_some(number));
+            assert_eq!(found, numbers.contains(&number).then_some(number));
         }
+        assert_eq!(Refusal::from_number(24), None);
     }
 }

@@ -1,7 +1,7 @@
 //! Demand 3 on the compiled core: after every command of every roll its till and
 //! its pools are those of the count sheet, which is fed the commands and their
-//! codes alone; accepted answers are the sheet's; no ticket number is paid twice, by a
-//! claim or by a collection.
+//! codes alone; accepted answers are the sheet's; each command has only its own codes; no
+//! ticket number is paid twice, by a claim or by a collection.
 
 mod side_by_side;
 
@@ -9,6 +9,7 @@ use reference::command::length;
 use reference::roll::{read_answer, ANSWER_BYTES};
 use reference::till::balances;
 use reference::{Cents, Command, CountSheet};
+use rolls::coverage::wrong_answer;
 use rolls::{calling_off, collecting, lucky_last, mixed, odd_cents, scenarios};
 use side_by_side::{jackpot, reference_jackpot};
 use std::collections::HashSet;
@@ -32,6 +33,7 @@ impl Count {
         assert_eq!((report.stop, report.read, report.answers), (Stop::End, bytes.len(), 1));
         let (_, answer) = read_answer(&record);
         let command = Command::decode(bytes);
+        assert_eq!(wrong_answer(&record), None, "{command:?}");
         let counted = self.sheet.feed(&command, answer.code);
         assert_eq!((answer.number, Cents::from(answer.cents)), counted, "{command:?}");
         let pays = match &command {

@@ -3,13 +3,14 @@
 
 mod side_by_side;
 
+use reference::command::{BALL, CLAIM};
 use reference::roll::ANSWER_BYTES;
 use reference::Flaw;
 use rolls::coverage::FAR_CODES;
 use rolls::{damaged, everything, mixed, NamedRoll};
 use side_by_side::edges::edge_rolls;
 use side_by_side::lucky::lucky_rolls;
-use side_by_side::Pair;
+use side_by_side::{Counts, Pair};
 use std::sync::OnceLock;
 
 const SEEDS: [u64; 4] = [1998, 7, 65_537, 0xF00D];
@@ -19,7 +20,7 @@ const SHORT: usize = 30_000;
 
 fn print_counts(what: &str, pair: &Pair) {
     let counts = &pair.counts;
-    let accepted = counts.coverage.percent_accepted();
+    let accepted = counts.proved.percent_accepted();
     println!("{what}: {} commands, {accepted}% accepted, {} tills", counts.commands, counts.tills);
 }
 
@@ -37,7 +38,7 @@ fn every_roll_through_a_book_of_a_hundred_answers() {
         let read = pair.read_through(&roll.bytes, 100 * ANSWER_BYTES);
         assert_eq!(read, Ok(()), "{}", roll.name);
     }
-    pair.counts.coverage.check(&FAR_CODES).unwrap();
+    pair.counts.check(&FAR_CODES).unwrap();
     assert!(pair.counts.commands >= 1_000_000);
     print_counts("every roll", &pair);
 }
@@ -50,8 +51,10 @@ fn short_rolls_by_command() {
         assert_eq!(pair.read_by_command(&roll.bytes), Ok(()), "{}", roll.name);
     }
     // Here each book has room for its one answer.
-    assert_eq!(pair.counts.coverage.missing(&FAR_CODES), ["stop 3"]);
-    assert_eq!(pair.counts.coverage.impossible(), [""; 0]);
+    for (side, coverage) in pair.counts.sides() {
+        assert_eq!(coverage.missing(&FAR_CODES), ["stop 3"], "{side}");
+        assert_eq!(coverage.impossible(), [""; 0], "{side}");
+    }
     assert_eq!(pair.counts.features.missing(), [""; 0]);
     assert!(pair.counts.commands >= 300_000);
     print_counts("by command", &pair);
@@ -69,12 +72,13 @@ fn commands_one_by_one() {
         pair.start_anew();
         assert_eq!(pair.give_one_by_one(&roll), Ok(()), "{roll:?}");
     }
-    pair.counts.coverage.check(&FAR_CODES).unwrap();
+    pair.counts.check(&FAR_CODES).unwrap();
     assert!(pair.counts.commands >= 90_000);
     print_counts("one by one", &pair);
 }
 
-/// Whole rolls at once, in a book with room for all answers.
+/// Whole rolls at once, in a book with room for all answers. Each claim that is accepted
+/// is seen to pay something as it is counted.
 #[test]
 fn mixed_rolls() {
     let mut pair = Pair::fresh();
@@ -84,6 +88,11 @@ fn mixed_rolls() {
         assert_eq!(read, Ok(()), "{roll:?}");
     }
     assert!(pair.counts.commands >= 2_000_000);
+    for (side, coverage) in pair.counts.sides() {
+        let claims = coverage.answers(CLAIM, 0);
+        println!("{side}: {claims} claims, each paid more than nothing");
+        assert!(claims >= 10_000, "{side}: {claims}");
+    }
     print_counts("mixed", &pair);
 }
 
@@ -148,6 +157,45 @@ fn books_of_every_small_size() {
         }
     }
     print_counts("small books", &pair);
+}
+
+/// A record of an answer with this code, or an accepted one with so many cents.
+fn record(command: u8, code: u8, cents: u8) -> [u8; ANSWER_BYTES] {
+    let number = u8::from(code == 0);
+    [command, code, 0, 0, 0, number, 0, 0, 0, 0, 0, 0, 0, cents]
+}
+
+/// The test of the counting: what no house may answer is found on either side, and on both,
+/// where the two agree on it.
+#[test]
+fn answers_that_no_house_may_give_are_found() {
+    let right = [record(BALL, 0, 0), record(CLAIM, 0, 1), record(CLAIM, 19, 0)].concat();
+    let mut counts = Counts::default();
+    assert_eq!(counts.count(&right, &right), Ok(()));
+    for (side, coverage) in counts.sides() {
+        let counted =
+            [(BALL, 0), (CLAIM, 0), (CLAIM, 19)].map(|(byte, code)| coverage.answers(byte, code));
+        assert_eq!(counted, [1, 1, 1], "{side}");
+    }
+    let mut wrong: Vec<_> = (1..=10).map(|command| record(command, 24, 0)).collect();
+    // A code of other commands, no command's code, no command, and a claim that pays nothing.
+    wrong.extend([
+        record(CLAIM, 34, 0),
+        record(CLAIM, 36, 0),
+        record(11, 4, 0),
+        record(CLAIM, 0, 0),
+    ]);
+    for answer in wrong {
+        let wrong = [&right[..], &answer].concat();
+        let found = |proved: &[u8], reference: &[u8]| {
+            Counts::default().count(proved, reference).expect_err("no house may give it")
+        };
+        assert!(found(&wrong, &right).starts_with("proved: "), "{answer:?}");
+        assert!(found(&right, &wrong).starts_with("reference: "), "{answer:?}");
+        assert!(found(&wrong, &wrong).starts_with("proved: "), "{answer:?}");
+    }
+    let both = Counts::default().count(&record(CLAIM, 24, 0), &record(CLAIM, 24, 0));
+    assert_eq!(both, Err("proved: command 5 is answered 24, no code of it".into()));
 }
 
 /// The test of these tests: beside a flawed reference the comparison fails, on

@@ -31,7 +31,7 @@ fn the_last_games() {
     for (roll, called_off) in [(*last, 1), (far.last_roll_called_off(), 2)] {
         let mut pair = Pair::of(lounge.clone(), house.clone());
         assert_eq!(pair.read_by_command(roll), Ok(()));
-        let coverage = &pair.counts.coverage;
+        let coverage = &pair.counts.proved;
         assert!(coverage.answers(SELL, 17) >= 5 && coverage.answers(LUCKY_LAST, 17) >= 5);
         assert_eq!((coverage.answers(BALL, 26), coverage.answers(CALL_OFF, 26)), (2, 2));
         assert_eq!(coverage.answers(CALL_OFF, 0), called_off);
@@ -58,7 +58,7 @@ fn the_last_ticket() {
     let house = House::seasoned(1, 0, CANCELLED);
     let mut pair = Pair::of(lounge.clone(), house.clone());
     assert_eq!(pair.read_by_command(&far_tickets::last_collections()), Ok(()));
-    let coverage = &pair.counts.coverage;
+    let coverage = &pair.counts.proved;
     assert_eq!((coverage.answers(COLLECT, 0), coverage.answers(COLLECT, 35)), (2, 5));
     assert_eq!(coverage.answers(LUCKY_LAST, 17), 2);
 
@@ -84,7 +84,7 @@ fn the_last_ticket() {
 
     let mut pair = Pair::of(lounge, house);
     assert_eq!(pair.read_by_command(&writer.finish()), Ok(()));
-    let coverage = &pair.counts.coverage;
+    let coverage = &pair.counts.proved;
     assert_eq!(coverage.answers(LUCKY_LAST, 0), 1);
     assert_eq!((coverage.answers(SELL, 16), coverage.answers(LUCKY_LAST, 16)), (1, 2));
     assert_eq!((coverage.answers(SELL, 17), coverage.answers(LUCKY_LAST, 17)), (2, 2));

@@ -59,11 +59,17 @@ pub enum Flaw {
     CalledOffNumberStays,
     /// What was paid for a game that is called off stays held, though it is due.
     CalledOffStakesStayHeld,
+    /// A ticket that is finished by a draw stays live, though nothing is due on it.
+    LostStaysLive,
+    /// One that is finished by a cancel does.
+    CancelledStaysLive,
+    /// One that is finished when a game is called off does.
+    CalledOffStaysLive,
 }
 
 impl Flaw {
     /// The flaws proper, without [`Flaw::None`].
-    pub const ALL: [Flaw; 24] = [
+    pub const ALL: [Flaw; 27] = [
         Flaw::SettlesOneGameMore,
         Flaw::OneCutRound,
         Flaw::CappedJackpot,
@@ -88,5 +94,8 @@ impl Flaw {
         Flaw::CalledOffBallsStay,
         Flaw::CalledOffNumberStays,
         Flaw::CalledOffStakesStayHeld,
+        Flaw::LostStaysLive,
+        Flaw::CancelledStaysLive,
+        Flaw::CalledOffStaysLive,
     ];
 }

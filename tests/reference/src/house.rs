@@ -184,7 +184,7 @@ impl House {
 
         let ticket = &mut self.tickets[index];
         let refund = ticket.take_off(being_drawn, self.flaw);
-        ticket.finish_if_no_game_is_left(self.today);
+        ticket.finish_if_no_game_is_left(self.today, self.flaw == Flaw::CancelledStaysLive);
         Ok((number, refund))
     }
 
@@ -205,8 +205,8 @@ impl House {
         let index = self.check_ticket(number)?;
         let ticket = &mut self.tickets[index];
         met(!ticket.is_finished(), refusal::NOT_FINISHED)?;
-        met(ticket.due() == 0, refusal::NOTHING_DUE)?;
 
+        // With nothing due it would be closed already.
         ticket.closing = Some(Closing::Claimed);
         Ok((number, ticket.due()))
     }
@@ -271,7 +271,7 @@ impl House {
         let mut due = 0;
         for ticket in self.tickets.iter_mut().filter(|ticket| ticket.is_live()) {
             due += ticket.call_off(game, self.flaw);
-            ticket.finish_if_no_game_is_left(self.today);
+            ticket.finish_if_no_game_is_left(self.today, self.flaw == Flaw::CalledOffStaysLive);
         }
         if self.flaw != Flaw::CalledOffNumberStays {
             self.game += 1;
@@ -351,7 +351,7 @@ impl House {
         for (&index, &winnings) in players.iter().zip(&settlement.winnings) {
             let ticket = &mut self.tickets[index];
             ticket.draw(game, winnings);
-            ticket.finish_if_no_game_is_left(self.today);
+            ticket.finish_if_no_game_is_left(self.today, self.flaw == Flaw::LostStaysLive);
         }
         self.contributed += settlement.contributed;
         self.seeded += settlement.seeded;
@@ -445,19 +445,6 @@ fn met(case: bool, code: u8) -> Result<(), u8> {
 #[cfg(test)]
 mod tests {
     use super::*;
-
-    /// No list of commands leads to a live finished ticket with nothing due, so
-    /// this one is put there by hand.
-    #[test]
-    fn code_24_is_answered() {
-        let mut house = House::seasoned(1, 0, 0);
-        house.command(&Command::sell(0, 1, 100, &[&[1]], 1));
-        assert_eq!(house.command(&Command::Claim { ticket: 1 }), Answer::refused(23));
-        house.tickets[0].games[0].standing = Standing::TakenOff;
-        let before = house.clone();
-        assert_eq!(house.command(&Command::Claim { ticket: 1 }), Answer::refused(24));
-        assert!(house == before);
-    }
 
     /// Tickets are kept as they were sold, so these are put out of order by hand.
     #[test]

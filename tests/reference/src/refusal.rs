@@ -1,42 +1,53 @@
 //! The numbers of "Where each thing is checked", and of the requests since, by
 //! name.
 
-pub const DAY_IS_ZERO: u8 = 4;
-pub const DAY_NOT_LATER: u8 = 5;
-pub const DRAWING: u8 = 6;
+macro_rules! refusals {
+    ($($name:ident = $number:literal;)*) => {
+        $(pub const $name: u8 = $number;)*
 
-pub const KIND: u8 = 7;
-pub const GAMES: u8 = 8;
-pub const GROUPS: u8 = 9;
-pub const MARKS: u8 = 10;
-pub const TYPES: u8 = 11;
-pub const WAY_SIZE: u8 = 12;
-pub const SPECIAL_ONE_WITH_ONE_WAY: u8 = 13;
-pub const STAKE: u8 = 14;
-pub const CHARGE: u8 = 15;
-pub const LIVE_TICKETS: u8 = 16;
-pub const NUMBERS_USED_UP: u8 = 17;
+        /// Every number that a refusal has.
+        pub const ALL: [u8; 31] = [$($name),*];
+    };
+}
 
-pub const NEVER_ISSUED: u8 = 18;
-pub const CLOSED: u8 = 19;
-pub const EARLIER_DAY: u8 = 20;
-pub const KENO_TO_GO_BEGUN: u8 = 21;
-pub const NO_GAME_TO_TAKE_OFF: u8 = 22;
-pub const NOT_FINISHED: u8 = 23;
-pub const NOTHING_DUE: u8 = 24;
+refusals! {
+    DAY_IS_ZERO = 4;
+    DAY_NOT_LATER = 5;
+    DRAWING = 6;
 
-pub const BALL_NUMBER: u8 = 25;
-pub const GAMES_USED_UP: u8 = 26;
-pub const BALL_ALREADY_IN: u8 = 27;
+    KIND = 7;
+    GAMES = 8;
+    GROUPS = 9;
+    MARKS = 10;
+    TYPES = 11;
+    WAY_SIZE = 12;
+    SPECIAL_ONE_WITH_ONE_WAY = 13;
+    STAKE = 14;
+    CHARGE = 15;
+    LIVE_TICKETS = 16;
+    NUMBERS_USED_UP = 17;
 
-pub const JACKPOT: u8 = 28;
-pub const TRANSFER_CENTS: u8 = 29;
+    NEVER_ISSUED = 18;
+    CLOSED = 19;
+    EARLIER_DAY = 20;
+    KENO_TO_GO_BEGUN = 21;
+    NO_GAME_TO_TAKE_OFF = 22;
+    NOT_FINISHED = 23;
+    // 24 stood for a claim with nothing due. It is out of reach and is not used again.
 
-pub const SHORT_BUFFER: u8 = 30;
+    BALL_NUMBER = 25;
+    GAMES_USED_UP = 26;
+    BALL_ALREADY_IN = 27;
 
-pub const FEATURE_TICKET: u8 = 31;
-pub const FEATURE_STAKE: u8 = 32;
+    JACKPOT = 28;
+    TRANSFER_CENTS = 29;
 
-pub const FINISHED: u8 = 33;
-pub const NOTHING_DUE_YET: u8 = 34;
-pub const TICKETS_USED_UP: u8 = 35;
+    SHORT_BUFFER = 30;
+
+    FEATURE_TICKET = 31;
+    FEATURE_STAKE = 32;
+
+    FINISHED = 33;
+    NOTHING_DUE_YET = 34;
+    TICKETS_USED_UP = 35;
+}

@@ -281,11 +281,11 @@ impl Ticket {
     }
 
     /// If no game is left: today is the finishing day, and with nothing due the
-    /// ticket closes.
-    pub fn finish_if_no_game_is_left(&mut self, today: u16) {
+    /// ticket closes, unless a flaw keeps it live.
+    pub fn finish_if_no_game_is_left(&mut self, today: u16, stays_live: bool) {
         if self.finished_on.is_none() && self.is_finished() {
             self.finished_on = Some(today);
-            if self.due() == 0 {
+            if self.due() == 0 && !stays_live {
                 self.closing = Some(Closing::NothingDue);
             }
         }

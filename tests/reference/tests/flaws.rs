@@ -56,6 +56,11 @@ fn must_find(flaw: Flaw) -> &'static [&'static str] {
         Flaw::CalledOffStakesStayHeld => {
             &["a game is called off before its first ball", "a claim pays stakes beside prizes"]
         }
+        Flaw::LostStaysLive => {
+            &["what was collected is not due again", "only the game being drawn is left"]
+        }
+        Flaw::CancelledStaysLive => &["printed ledger", "a reissued ticket is cancelled"],
+        Flaw::CalledOffStaysLive => &["a free game gives nothing"],
     }
 }
 

@@ -320,7 +320,7 @@ fn codes_20_to_22_cancel() {
     desk.difference.expect("house and sheet agree");
 }
 
-/// Code 24 has no example: a finished ticket with nothing due is closed.
+/// Nothing stands behind it: a finished ticket with nothing due is closed.
 #[test]
 fn code_23_claim() {
     let mut desk = desk();

@@ -7,10 +7,8 @@ use reference::command::{
 use reference::roll::{read_answer, run_roll, ANSWER_BYTES, STOP_BOOK_FULL};
 use reference::House;
 
-/// The codes that each command can be answered with.
-///
-/// Code 24 is not among them: a finished ticket with nothing due is closed, so
-/// 19 comes first. Code 30 belongs to the live list, which is on no roll.
+/// The codes that each command can be answered with. Code 30 belongs to the live
+/// list, which is on no roll.
 pub const CODES: [(u8, &[u8]); 10] = [
     (OPEN, &[0, 5, 6]),
     (SELL, &[0, 4, 7, 8, 9, 10, 11, 12, 13, 14, 15, 16, 17]),
@@ -29,6 +27,23 @@ pub const CODES: [(u8, &[u8]); 10] = [
 /// [`crate::FarGames`] reach both by way of the games. 35 needs the tickets, and
 /// [`crate::far_tickets`] has what is then left to do.
 pub const FAR_CODES: [u8; 3] = [17, 26, 35];
+
+/// What is wrong with the first record that no house may write: a code that its command
+/// does not have, or an accepted claim that pays nothing.
+pub fn wrong_answer(records: &[u8]) -> Option<String> {
+    records.chunks_exact(ANSWER_BYTES).find_map(|record| {
+        let (command, answer) = read_answer(record);
+        if !has_code(command, answer.code) {
+            return Some(format!("command {command} is answered {}, no code of it", answer.code));
+        }
+        let pays_nothing = (command, answer.code, answer.cents) == (CLAIM, 0, 0);
+        pays_nothing.then(|| format!("a claim of ticket {} pays nothing", answer.number))
+    })
+}
+
+fn has_code(command: u8, code: u8) -> bool {
+    CODES.iter().any(|(byte, codes)| *byte == command && codes.contains(&code))
+}
 
 /// Answers and stops counted.
 #[derive(Clone, Debug)]

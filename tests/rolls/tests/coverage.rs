@@ -2,7 +2,7 @@
 //! something.
 
 use reference::command::{BALL, CALL_OFF, CLAIM, COLLECT, LUCKY_LAST, SELL};
-use reference::House;
+use reference::{refusal, House};
 use rolls::coverage::FAR_CODES;
 use rolls::{
     calling_off, collecting, damaged, everything, far_tickets, mixed, odd_cents, scenarios,
@@ -44,10 +44,9 @@ fn mixed_rolls_alone() {
     assert!(coverage.answers(CALL_OFF, 0) > 500);
 }
 
-/// With the far rolls every code from 4 to 35 is met, but for 24, which no ticket can be
-/// refused by, and 30, which is the live list's.
+/// With the far rolls every code that there is is met, but for the live list's.
 #[test]
-fn every_code_from_4_to_35_with_the_far_rolls() {
+fn every_code_with_the_far_rolls() {
     let mut coverage = covered(everything(SEED).iter().map(|roll| &roll.bytes), 100);
     let far = FarGames::new();
     let mut house = House::seasoned(1, far.games_before_the_last_roll(), 0);
@@ -57,8 +56,9 @@ fn every_code_from_4_to_35_with_the_far_rolls() {
     coverage.check(&[]).unwrap();
     let is_met = |code: &u8| (1..=10).any(|command| coverage.answers(command, *code) > 0);
     let met: Vec<u8> = (1..=255).filter(is_met).collect();
-    let codes = (4..=35).filter(|code| ![24, 30].contains(code));
-    assert_eq!(met, codes.collect::<Vec<u8>>());
+    let of_commands = |code: &u8| *code != refusal::SHORT_BUFFER;
+    let codes: Vec<u8> = refusal::ALL.into_iter().filter(of_commands).collect();
+    assert_eq!(met, codes);
 }
 
 /// Of collections and of the numbers they issue; and on the mixed rolls alone all but
@@ -96,7 +96,8 @@ fn every_outcome_of_a_feature_is_met() {
     assert_eq!(features.missing(), [""; 0]);
 }
 
-/// The test of this test: a set without cancels is found wanting.
+/// The test of this test: a set without cancels is found wanting, and a code that is none is
+/// found.
 #[test]
 fn a_missing_code_is_named() {
     let roll = vec![1, 0, 1, 6];
@@ -106,6 +107,9 @@ fn a_missing_code_is_named() {
     assert!(found.contains("command 9 with code 34"));
     assert!(found.contains("command 10 with code 4"));
     assert!(found.contains("stop 3"));
+    let mut coverage = Coverage::new();
+    coverage.count_answer(CLAIM, 24);
+    assert_eq!(coverage.impossible(), ["command 5 with code 24"]);
     let mut features = Features::default();
     features.count_roll(&roll);
     assert_eq!(features.missing().len(), 8);

@@ -53,6 +53,11 @@ fn scenarios_find_their_flaws() {
         (Flaw::CalledOffNumberStays, calling_off::in_a_row(SEED)),
         (Flaw::CalledOffStakesStayHeld, calling_off::moments(SEED)),
         (Flaw::CalledOffStakesStayHeld, calling_off::free_games(SEED)),
+        (Flaw::LostStaysLive, scenarios::cancels(SEED)),
+        (Flaw::LostStaysLive, scenarios::crowded_lounge(SEED)),
+        (Flaw::CancelledStaysLive, scenarios::cancels(SEED)),
+        (Flaw::CancelledStaysLive, collecting::moments(SEED)),
+        (Flaw::CalledOffStaysLive, calling_off::free_games(SEED)),
     ];
     for (flaw, rolls) in sets {
         assert!(finds(flaw, &rolls), "{flaw:?}");

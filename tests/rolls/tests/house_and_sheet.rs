@@ -1,7 +1,7 @@
 //! Demand 3 on every roll: house and count sheet agree, the till balances,
 //! refused commands might as well not have been given, no ticket number is paid twice, by
 //! a claim or by a collection, and it is paid what its own games have won and what was paid
-//! for those called off.
+//! for those called off. And each finished ticket that is live has something due.
 
 use reference::roll::commands;
 use reference::till::balances;
@@ -38,6 +38,7 @@ fn check(roll: &NamedRoll) {
         // did to the till still shows after the next command.
         if !house.is_drawing() || !matches!(command, Command::Ball { .. }) {
             compare_tills(&house, &sheet, at);
+            a_finished_ticket_has_something_due(&house, at);
         }
     }
     assert!(house == only_accepted, "{}: a refused command left a trace", roll.name);
@@ -72,6 +73,13 @@ fn each_game_has_one_number(house: &House, name: &str) {
         let all: Vec<u32> = (games[0]..games[0] + terms.games).collect();
         assert_eq!(games, all, "{name}: ticket {sale}");
     }
+}
+
+/// Each that is live: with nothing due it is closed, and no claim finds it.
+fn a_finished_ticket_has_something_due(house: &House, at: impl Fn() -> String) {
+    let mut finished = house.live_tickets().filter(|ticket| ticket.finished_on.is_some());
+    let without = finished.find(|ticket| ticket.due() == 0);
+    assert_eq!(without, None, "{}", at());
 }
 
 fn compare_tills(house: &House, sheet: &CountSheet, at: impl Fn() -> String) {

@@ -5,7 +5,7 @@ use crate::Checked;
 use reference::command::length;
 use reference::roll::ANSWER_BYTES;
 use reference::till::FIGURES;
-use reference::{run_roll, Command, House, Sale};
+use reference::{refusal, run_roll, Command, House, Sale};
 use wulipday::{Refusal, Stop, Till, RULES};
 
 /// Every byte that is a command, its length, and where its operands stand: bytes
@@ -137,15 +137,19 @@ pub fn stops(document: &Document) -> Checked {
     Ok(())
 }
 
-/// The sentences of hosts/rust, with their numbers.
+/// The codes of the reference, with the sentences of hosts/rust; and of the one that is gone,
+/// that it is not used.
 pub fn refusals(document: &Document) -> Checked {
     let rows = document.table("Code", "Meaning");
-    same("refusals", rows.len(), Refusal::ALL.len())?;
+    let codes = rows.iter().map(|row| number(row[0])).collect::<Result<Vec<i128>, String>>()?;
+    same("codes", codes, refusal::ALL.map(i128::from).to_vec())?;
+    same("codes of hosts/rust", Refusal::ALL.map(Refusal::number), refusal::ALL)?;
     for (row, refusal) in rows.iter().zip(Refusal::ALL) {
-        same(row[1], number(row[0])?, i128::from(refusal.number()))?;
         same("meaning", row[1], refusal.sentence())?;
     }
-    Ok(())
+    let not_used = "Code 24 is not used: it stood for a claim of a ticket with nothing due, \
+                    which is closed and answered 19. It will not be used again.";
+    same(not_used, document.says(not_used), true)
 }
 
 pub fn figures(document: &Document) -> Checked {

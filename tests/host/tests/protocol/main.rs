@@ -77,7 +77,7 @@ fn another_order_is_seen() {
             tried += 1;
         }
     }
-    assert_eq!(tried, 1 + 11 + 5 + 3 + 4 + 3 + 13 + 5 + 1);
+    assert_eq!(tried, 1 + 11 + 5 + 3 + 3 + 3 + 13 + 5 + 1);
 }
 
 /// And the numbers of a live list.
@@ -110,6 +110,21 @@ fn other_odd_cents_are_seen() {
         ("| 142,857; 285,716; 428,573; 142,857 |", "| 142,858; 285,715; 428,572; 142,858 |"),
         ("| 142,857; 285,716; 428,573; 142,857 |", "| 142,857; 285,715; 428,574; 142,857 |"),
         ("| 333,334; 333,334; 333,333 |", "| 333,333; 333,334; 333,334 |"),
+    ];
+    are_seen(&others);
+}
+
+/// And 24, which is no code any more, where it comes back: into the table, into an order, or
+/// as a number that may be used.
+#[test]
+fn a_code_that_is_gone_is_seen() {
+    let others = [
+        ("| 25 | a ball has", "| 24 | nothing is due on the ticket | |\n| 25 | a ball has"),
+        ("| Claim | 4, 18, 19, 23 |", "| Claim | 4, 18, 19, 23, 24 |"),
+        ("| Claim | 4, 18, 19, 23 |", "| Claim | 4, 18, 19, 24, 23 |"),
+        ("| Cancel | 4, 18, 19, 20, 21, 22 |", "| Cancel | 4, 18, 19, 20, 21, 22, 24 |"),
+        ("Code 24 is not used:", "Code 24 is used:"),
+        (" It will not be used again.", ""),
     ];
     are_seen(&others);
 }

@@ -26,7 +26,7 @@ const ASKED: [&str; 11] = [
 ];
 
 /// Neighbours in an order that never hold together.
-const APART: [(u8, u8); 6] = [(4, 26), (18, 19), (19, 23), (23, 24), (26, 27), (33, 34)];
+const APART: [(u8, u8); 5] = [(4, 26), (18, 19), (19, 23), (26, 27), (33, 34)];
 
 /// A command that was given: its byte, the refusals that hold, and its code.
 #[derive(PartialEq, Eq, PartialOrd, Ord)]
@@ -275,8 +275,7 @@ fn of_a_cancel(house: &House, number: u32) -> Vec<(u8, bool)> {
 fn of_a_claim(house: &House, number: u32) -> Vec<(u8, bool)> {
     let mut told = of_a_number(house, number);
     if let Some(ticket) = ticket(house, number) {
-        let is_over = ticket.is_finished() && ticket.is_live();
-        told.extend([(23, !ticket.is_finished()), (24, is_over && ticket.due() == 0)]);
+        told.push((23, !ticket.is_finished()));
     }
     told
 }

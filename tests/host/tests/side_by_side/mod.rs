@@ -11,6 +11,7 @@ use reference::command::{length, BALL};
 use reference::roll::{ANSWER_BYTES, STOP_BOOK_FULL};
 use reference::till::FIGURES;
 use reference::{run_roll, Cents, Flaw, House};
+use rolls::coverage::wrong_answer;
 use rolls::{Coverage, Features};
 use std::fmt::Debug;
 use wulipday::{Lounge, Refusal, Report, Stop};
@@ -31,7 +32,9 @@ pub struct Pair {
 /// What was compared, over all houses of a test.
 #[derive(Default)]
 pub struct Counts {
-    pub coverage: Coverage,
+    /// What each side has answered.
+    pub proved: Coverage,
+    pub reference: Coverage,
     pub commands: u64,
     /// Comparisons of till, pools and live list.
     pub tills: u64,
@@ -47,6 +50,35 @@ pub struct Reading {
     pub stop: u8,
     pub read: usize,
     pub code: u8,
+}
+
+impl Counts {
+    pub fn sides(&self) -> [(&'static str, &Coverage); 2] {
+        [("proved", &self.proved), ("reference", &self.reference)]
+    }
+
+    /// Counts the records that each side has written, whether they agree or not: what no
+    /// house may answer is no agreement where both answer it.
+    pub fn count(&mut self, proved: &[u8], reference: &[u8]) -> Result<(), Difference> {
+        for (side, records) in [("proved", proved), ("reference", reference)] {
+            wrong_answer(records).map_or(Ok(()), |found| Err(format!("{side}: {found}")))?;
+        }
+        self.proved.count_book(proved);
+        self.reference.count_book(reference);
+        Ok(())
+    }
+
+    fn count_stops(&mut self, proved: u8, reference: u8) {
+        self.proved.count_stop(proved);
+        self.reference.count_stop(reference);
+    }
+
+    /// Fails where a code or a stop was not met by both sides, apart from the exempt codes.
+    pub fn check(&self, exempt: &[u8]) -> Result<(), String> {
+        self.sides().into_iter().try_for_each(|(side, coverage)| {
+            coverage.check(exempt).map_err(|found| format!("{side}: {found}"))
+        })
+    }
 }
 
 impl Pair {
@@ -83,13 +115,14 @@ impl Pair {
         same("bytes read", proved.read, reference.read)?;
         same("answers", proved.answers, reference.answers)?;
         let (records, beyond) = proved_book.split_at(proved.answers * ANSWER_BYTES);
-        let both = records.chunks(ANSWER_BYTES).zip(reference_book.chunks(ANSWER_BYTES));
+        let reference_records = &reference_book[..records.len()];
+        self.counts.count(records, reference_records)?;
+        let both = records.chunks(ANSWER_BYTES).zip(reference_records.chunks(ANSWER_BYTES));
         for (place, (proved, reference)) in both.enumerate() {
             same(&format!("answer {place}"), proved, reference)?;
         }
         same("book beyond its answers", beyond, &vec![BLANK; beyond.len()])?;
-        self.counts.coverage.count_book(records);
-        self.counts.coverage.count_stop(proved.stop.number());
+        self.counts.count_stops(proved.stop.number(), reference.stop);
         self.counts.commands += proved.answers as u64;
         let code = records.chunks(ANSWER_BYTES).last().map_or(0, |record| record[1]);
         Ok(Reading { stop: proved.stop.number(), read: proved.read, code })
@@ -151,12 +184,13 @@ impl Pair {
         same("stop", proved.stop.number(), reference.stop)?;
         same("bytes read", proved.read, reference.read)?;
         same("answers", proved.answers, reference.answers)?;
+        let written = proved.answers * ANSWER_BYTES;
+        self.counts.count(&answer[..written], &book[..written])?;
         same("answer", answer, book)?;
         if (proved.answers == 0 || answer[1] != 0) && before != self.lounge {
             return Err("what was not carried out left a trace".into());
         }
-        self.counts.coverage.count_book(&answer[..proved.answers * ANSWER_BYTES]);
-        self.counts.coverage.count_stop(proved.stop.number());
+        self.counts.count_stops(proved.stop.number(), reference.stop);
         self.counts.commands += proved.answers as u64;
         Ok(proved)
     }
