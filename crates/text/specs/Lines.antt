@@ -1,7 +1,6 @@
 -- "one line an answer (command, code, number, cents), then the stop code, then the nine till figures [..]. Figures are decimal, one space
 -- apart, with a minus sign where negative; the last two lines start with the words shown." Text is bytes: 48 to 57 are the digits.
-use Rattle.std.specs.Prelude.{ℕ, zero, suc, ◌+◌, ◌/◌, ◌%◌, Bool, cond, List, [], ◌∷◌, ◌++◌, ltb, get_or, take, drop}
-use Rattle.std.specs.List.{flat_map}
+use Rattle.std.specs.Prelude.{ℕ, zero, suc, ◌+◌, ◌*◌, ◌/◌, ◌%◌, ◌≤◌, ◌≡◌, Bool, cond, List, [], ◌∷◌, ◌++◌, ltb, length, get_or, take, drop}
 use Rattle.queries.specs.declared.till.Till.{Till}
 use Rattle.numbers.specs.Bytes.{number_of}
 
@@ -20,9 +19,13 @@ line [] = 10 ∷ []
 line (word ∷ []) = word ++ (10 ∷ [])
 line (word ∷ next ∷ words) = word ++ (32 ∷ line (next ∷ words))
 
--- figures, each behind a space
-unfoldable pub spaced : List ℕ → List ℕ
-spaced figures = flat_map (λ n. 32 ∷ decimal n) figures
+-- a figure and the byte that ends it
+unfoldable pub figure : ℕ → ℕ → List ℕ
+figure n end = decimal n ++ (end ∷ [])
+
+-- four figures one space apart, and the byte that ends them
+unfoldable pub four_figures : ℕ → ℕ → ℕ → ℕ → ℕ → List ℕ
+four_figures a b c d end = figure a 32 ++ (figure b 32 ++ (figure c 32 ++ figure d end))
 
 -- an answer: command byte, code, number, cents
 unfoldable pub answer_line : ℕ → ℕ → ℕ → ℕ → List ℕ
@@ -67,3 +70,21 @@ till_line t =
     ∷ decimal t.pooled
     ∷ signed t.negative t.retained
     ∷ [])
+
+-- a buffer with a text put at a place: what stands before and after it is untouched
+unfoldable pub placed : List ℕ → ℕ → List ℕ → List ℕ
+placed out at text = take at out ++ (text ++ drop (at + length text) out)
+
+-- the buffer before, the place, the text written there, the buffer after, and the next place
+pub record Wrote (before : List ℕ) (at : ℕ) (text after : List ℕ) (next : ℕ) : Type 0 where
+  pub bytes : after ≡ placed before at text
+  pub ends : next ≡ at + length text
+
+-- a buffer with room for a line from a place on
+pub record RoomFor (out : List ℕ) (at : ℕ) (text : List ℕ) : Type 0 where
+  pub ends : at + length text ≤ length out
+
+-- a book that has so many answers, and a buffer with room for their lines, 40 bytes each at the most
+pub record BookRoom (out book : List ℕ) (answers : ℕ) : Type 0 where
+  pub lines : answers * 40 ≤ length out
+  pub records : answers * 14 ≤ length book

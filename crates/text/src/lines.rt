@@ -1,9 +1,88 @@
-// The last two lines that the ledger prints, each with its line's end.
-ghost use Rattle.std.specs.Prelude.{Some};
-ghost use Rattle.text.specs.Lines.{stop_line, till_line, spaced, signed};
+// The lines that the ledger prints, each with its line's end, put into a buffer, which cannot fail; and the last two as values that `{}` prints, which fail
+// only where the writer does.
+ghost use Rattle.std.specs.Prelude.{◌∷◌, [], ◌++◌, ◌+◌, ◌≤◌, length, Some};
+ghost use Rattle.std.specs.Fmt.{WritesOnOk};
+ghost use Rattle.text.specs.Lines.{RoomFor, Wrote, answer_line, stop_line, till_line, signed};
 
+use crate::ascii::as_text;
+use crate::decimal::{put_byte, put_figure, put_four};
 use queries::till::Till;
 use std::fmt;
+
+// A word of four letters and a space; the next place.
+fn put_word(out: &mut [u8], at: usize, a: u8, b: u8, c: u8, d: u8) -> usize
+    requires { at + 5 ≤ length out.old }
+    ensures { Wrote out.old at (a ∷ b ∷ c ∷ d ∷ 32 ∷ []) out.new result }
+{
+    let second = put_byte(out, at, a);
+    let third = put_byte(out, second, b);
+    let fourth = put_byte(out, third, c);
+    let fifth = put_byte(out, fourth, d);
+    put_byte(out, fifth, 32)
+}
+
+// A figure by its size, with a minus sign where it is below zero, and the line's end; the next place.
+fn put_signed(out: &mut [u8], at: usize, negative: bool, size: u64) -> usize
+    requires { at + length (signed negative size ++ (10 ∷ [])) ≤ length out.old }
+    ensures { Wrote out.old at (signed negative size ++ (10 ∷ [])) out.new result }
+{
+    if negative {
+        let next = put_byte(out, at, 45);
+        return put_figure(out, next, size, 10);
+    }
+    put_figure(out, at, size, 10)
+}
+
+// An answer's line; the next place.
+pub(crate) fn put_answer_line(
+    out: &mut [u8],
+    at: usize,
+    byte: u8,
+    code: u8,
+    number: u32,
+    cents: u64,
+) -> usize
+    requires { RoomFor out.old at (answer_line byte code number cents) }
+    ensures { Wrote out.old at (answer_line byte code number cents) out.new result }
+{
+    put_four(out, at, byte as u64, code as u64, number as u64, cents, 10)
+}
+
+// The line of a stop code; the next place.
+pub fn put_stop_line(out: &mut [u8], at: usize, code: u8) -> usize
+    requires { RoomFor out.old at (stop_line code) }
+    ensures { Wrote out.old at (stop_line code) out.new result }
+{
+    let next = put_word(out, at, b's', b't', b'o', b'p');
+    put_figure(out, next, code as u64, 10)
+}
+
+// The line of the till; the next place.
+pub fn put_till_line(out: &mut [u8], at: usize, till: Till) -> usize
+    requires { RoomFor out.old at (till_line till) }
+    ensures { Wrote out.old at (till_line till) out.new result }
+{
+    let first = put_word(out, at, b't', b'i', b'l', b'l');
+    let fifth = put_four(
+        out,
+        first,
+        till.taken,
+        till.seeds,
+        till.paid,
+        till.refunded,
+        32,
+    );
+    let ninth = put_four(
+        out,
+        fifth,
+        till.owed,
+        till.held,
+        till.unclaimed,
+        till.pooled,
+        32,
+    );
+    put_signed(out, ninth, till.negative, till.retained)
+}
 
 // The line of a stop code: a number, as the report has it for C.
 #[derive(Clone, Copy)]
@@ -13,9 +92,20 @@ impl fmt::Display for StopLine {
     ghost output = { λ s. Some (stop_line s.0) };
 
     fn fmt<W: fmt::Write>(&self, f: &mut fmt::Formatter<W>) -> fmt::Result {
+        let mut line = [0u8; 9];
         let code = self.0;
-        writeln!(f, "stop {code}")
+        let size = put_stop_line(&mut line, 0, code);
+        f.write_str(as_text(&line[..size]))
     }
+}
+
+// Prints the line of a till, in one write. A function of its own, so that the figures are known to be numbers of 64 bits.
+fn print_till<W: fmt::Write>(till: Till, f: &mut fmt::Formatter<W>) -> fmt::Result
+    ensures { WritesOnOk W.write_str_gives f.old result (till_line till) f.new }
+{
+    let mut line = [0u8; 195];
+    let size = put_till_line(&mut line, 0, till);
+    f.write_str(as_text(&line[..size]))
 }
 
 // The line of the till.
@@ -26,56 +116,6 @@ impl fmt::Display for TillLine {
     ghost output = { λ t. Some (till_line t.0) };
 
     fn fmt<W: fmt::Write>(&self, f: &mut fmt::Formatter<W>) -> fmt::Result {
-        let till = self.0;
-        let figures = Figures(&[
-            till.taken,
-            till.seeds,
-            till.paid,
-            till.refunded,
-            till.owed,
-            till.held,
-            till.unclaimed,
-            till.pooled,
-        ]);
-        let retained = Signed {
-            negative: till.negative,
-            size: till.retained,
-        };
-        writeln!(f, "till{figures} {retained}")
-    }
-}
-
-// Figures, each behind a space.
-#[derive(Clone, Copy)]
-struct Figures<'a>(&'a [u64]);
-
-impl fmt::Display for Figures<'_> {
-    ghost output = { λ figures. Some (spaced figures.0.now) };
-
-    fn fmt<W: fmt::Write>(&self, f: &mut fmt::Formatter<W>) -> fmt::Result {
-        for &figure in self.0 {
-            write!(f, " {figure}")?;
-        }
-        Ok(())
-    }
-}
-
-// A figure by its size, with a minus sign where it is below zero: a flag beside a size, as the till's struct has them for C.
-#[derive(Clone, Copy)]
-struct Signed {
-    negative: bool,
-    size: u64,
-}
-
-impl fmt::Display for Signed {
-    ghost output = { λ s. Some (signed s.negative s.size) };
-
-    fn fmt<W: fmt::Write>(&self, f: &mut fmt::Formatter<W>) -> fmt::Result {
-        let size = self.size;
-        if self.negative {
-            write!(f, "-{size}")
-        } else {
-            write!(f, "{size}")
-        }
+        print_till(self.0, f)
     }
 }
