@@ -74,7 +74,7 @@ const TABLE: [u16; 132] = [
 ];
 
 // The three schedules: a word for each of the 21 selections that a schedule has, and a cell for each of the 111 combinations that pay.
-#[derive(Drop)]
+#[derive(Clone, Copy)]
 pub struct PrizeTable {
     pub cells: [u16; 132],
     ghost kept: { Schedules cells },

@@ -3,7 +3,7 @@
 use Prim.Native.Nat.{ℕ, zero, suc, ◌+◌, ◌-◌, ◌≤◌, ◌<◌, ◌^◌, min, max}
 use mathlib.Core.Path.{◌≡◌, refl, sym, ap, ◌∙◌, subst, subst⁻¹}
 use mathlib.Core.List.{List, [], ◌∷◌, ◌++◌, map, map-map, map-append}
-use native.Mathlib.Nat.{zero-add}
+use native.Mathlib.Nat.{zero-add, add-zero}
 use native.Mathlib.Numerals.{add-one}
 use native.Mathlib.Omega.{arith}
 use lib.Dec.{ltb}
@@ -23,6 +23,7 @@ use Rattle.house.specs.declared.rows.Row.{Row}
 use Rattle.queries.specs.declared.till.Till.{Till}
 use Rattle.house.proofs.Ledger.{Kept}
 use Rattle.house.proofs.ReachedHouses.{Sure, reached_sure}
+use Rattle.house.proofs.MoneyLaws.{sum_snoc}
 use Rattle.house.proofs.Bounded.{span_paid_within}
 use Rattle.house.proofs.RisingNumbers.{all_at}
 use Rattle.house.proofs.RowLists.{get_or_table}
@@ -31,6 +32,25 @@ use Rattle.house.proofs.ViewLaws.{live_count}
 -- the values below n, added
 abbrev pub total : (ℕ → ℕ) → ℕ → ℕ
 total f n = sum (map f (below n))
+
+pub total_none : (f : ℕ → ℕ) → total f 0 ≡ 0
+unfolding below sum
+total_none f = refl
+
+pub total_more : (f : ℕ → ℕ) (n : ℕ) → total f (n + 1) ≡ total f n + f n
+unfolding below
+total_more f n = ap (total f) (add-one n) ∙ sum_snoc f (below n) n
+
+total_grown : (f : ℕ → ℕ) (i k : ℕ) → total f i ≤ total f (i + k)
+total_grown f i zero = omega (arith, ap (total f) (add-zero i))
+total_grown f i (suc k) =
+    let e : i + suc k ≡ i + k + 1 = omega arith in
+    omega (arith, ap (total f) e, total_more f (i + k), total_grown f i k)
+
+pub total_part : (f : ℕ → ℕ) (i n : ℕ) → i ≤ n → total f i ≤ total f n
+total_part f i n h =
+    let e : n ≡ i + (n - i) = omega arith in
+    omega (arith, ap (total f) e, total_grown f i (n - i))
 
 -- the numbers below n are a range's
 below_range : (f : ℕ → ℕ) (n : ℕ) → map f (range_with_len 0 n) ≡ map f (below n)
@@ -109,11 +129,11 @@ module _ (h : House) (words : List ℕ) (comes : ComesWith h words) where
       subst⁻¹ (λ (v : Row). PaidWithin (max v.first h.game) v.stop v) read
       (record { within = span_paid_within h.game (max t.first h.game) t.stop t (row_kept i b) (omega arith) })
 
-  pub owed_fits : total (due_at words) h.live < 2 ^ 62
-  owed_fits = omega (arith, owed_rows h words comes.marks, comes_sure.fit.figures.owed)
+  pub owed_fits : (i : ℕ) → i ≤ h.live → total (due_at words) i < 2 ^ 62
+  owed_fits i b = omega (arith, total_part (due_at words) i h.live b, owed_rows h words comes.marks, comes_sure.fit.figures.owed)
 
-  pub held_fits : total (held_at h.game words) h.live < 2 ^ 62
-  held_fits = omega (arith, held_rows h words comes.marks, comes_sure.fit.figures.held)
+  pub held_fits : (i : ℕ) → i ≤ h.live → total (held_at h.game words) i < 2 ^ 62
+  held_fits i b = omega (arith, total_part (held_at h.game words) i h.live b, held_rows h words comes.marks, comes_sure.fit.figures.held)
 
   pub pooled_fits : pooled h.six + pooled h.eight < 2 ^ 62
   unfolding till_of view

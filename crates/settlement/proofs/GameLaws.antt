@@ -118,7 +118,7 @@ module _ (g : DrawnGame) (before_six before_eight : Jackpot) where
     pub prized_count : length prizes ≡ g.live
     prized_count = ap length prized.prizes ∙ length_spread g.game drawn_prizes (drawn_tickets g) ∙ places
 
-    pub prizes_fit : (i : ℕ) → i < g.live → get_or prizes i 0 < 2 ^ 63
+    pub prizes_fit : (i : ℕ) → i < g.live → get_or prizes i 0 < 2 ^ 62
     prizes_fit i inside =
         omega (
           arith,
@@ -131,7 +131,7 @@ module _ (g : DrawnGame) (before_six before_eight : Jackpot) where
       with_six : shared ≡ spread g.game (zip_with ◌+◌ drawn_prizes six_shares) (drawn_tickets g)
       with_six = out.joined drawn_prizes prizes_count prized.prizes
 
-      pub six_fit : (i : ℕ) → i < g.live → get_or shared i 0 < 2 ^ 63
+      pub six_fit : (i : ℕ) → i < g.live → get_or shared i 0 < 2 ^ 62
       six_fit i inside =
           omega (
             arith,

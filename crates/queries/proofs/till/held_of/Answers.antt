@@ -23,7 +23,7 @@ sum-requires-clause-fits c =
     let house = c.args.house.now in
     let rows = c.args.rows.now in
     let held = held_at house.game rows in
-    let fits : sum (map held (range_with_len 0 house.live)) < 2 ^ 64 = omega (arith, range_total held house.live, held_fits house rows c.requires) in
+    let fits : sum (map held (range_with_len 0 house.live)) < 2 ^ 64 = omega (arith, range_total held house.live, held_fits house rows c.requires house.live (omega arith)) in
     fits_from_yields_list c.map.result (2 ^ 64)
     (YieldsList-from_map _ held (YieldsList-at c.map.ensures.source (YieldsList-from_range 0 house.live house.live refl (omega arith))) c.map.ensures.closure (λ x r q k. search rules))
     fits

@@ -14,7 +14,7 @@ pub sum-requires-clause-fits : goal.sum-requires-clause-fits
 sum-requires-clause-fits c =
     let live = c.args.house.now.live in
     let due = due_at c.args.rows.now in
-    let fits : sum (map due (range_with_len 0 live)) < 2 ^ 64 = omega (arith, range_total due live, owed_fits c.args.house.now c.args.rows.now c.requires) in
+    let fits : sum (map due (range_with_len 0 live)) < 2 ^ 64 = omega (arith, range_total due live, owed_fits c.args.house.now c.args.rows.now c.requires live (omega arith)) in
     fits_from_yields_list c.map.result (2 ^ 64)
     (YieldsList-from_map _ due (YieldsList-at c.map.ensures.source (YieldsList-from_range 0 live live refl (omega arith))) c.map.ensures.closure (λ x r q k. search rules))
     fits

@@ -49,7 +49,7 @@ settle_jackpot-six-requires c =
           ∙ ap (λ j. stakes_of game.rows.now (full_of c.find_prizes.new.ways) game.game j game.live) (sym number);
       pools = c.requires.six;
       places = prized_count game c.args.before_six c.args.before_eight c.requires.room c.find_prizes.ensures;
-      room = prizes_fit game c.args.before_six c.args.before_eight c.requires.room c.find_prizes.ensures;
+      room = λ i b. omega (arith, prizes_fit game c.args.before_six c.args.before_eight c.requires.room c.find_prizes.ensures i b);
     }
 
 pub settle_jackpot-eight-requires : goal.settle_jackpot-eight-requires
@@ -64,7 +64,7 @@ settle_jackpot-eight-requires c =
           ∙ ap (λ j. stakes_of game.rows.now (full_of c.find_prizes.new.ways) game.game j game.live) (sym number);
       pools = c.requires.eight;
       places = omega (arith, places, c.settle_jackpot-six.auto.paid);
-      room = six_fit game c.args.before_six c.args.before_eight c.requires.room c.find_prizes.ensures (by_number first c.settle_jackpot-six.ensures);
+      room = λ i b. omega (arith, six_fit game c.args.before_six c.args.before_eight c.requires.room c.find_prizes.ensures (by_number first c.settle_jackpot-six.ensures) i b);
     }
 
 pub returns : goal.returns
