@@ -19,14 +19,6 @@ line [] = 10 ∷ []
 line (word ∷ []) = word ++ (10 ∷ [])
 line (word ∷ next ∷ words) = word ++ (32 ∷ line (next ∷ words))
 
--- a figure and the byte that ends it
-unfoldable pub figure : ℕ → ℕ → List ℕ
-figure n end = decimal n ++ (end ∷ [])
-
--- four figures one space apart, and the byte that ends them
-unfoldable pub four_figures : ℕ → ℕ → ℕ → ℕ → ℕ → List ℕ
-four_figures a b c d end = figure a 32 ++ (figure b 32 ++ (figure c 32 ++ figure d end))
-
 -- an answer: command byte, code, number, cents
 unfoldable pub answer_line : ℕ → ℕ → ℕ → ℕ → List ℕ
 answer_line byte code number cents = line (decimal byte ∷ decimal code ∷ decimal number ∷ decimal cents ∷ [])
@@ -70,6 +62,16 @@ till_line t =
     ∷ decimal t.pooled
     ∷ signed t.negative t.retained
     ∷ [])
+
+-- ---- what only the contracts of the writers speak of
+
+-- a figure and the byte that ends it
+unfoldable pub figure : ℕ → ℕ → List ℕ
+figure n end = decimal n ++ (end ∷ [])
+
+-- four figures one space apart, and the byte that ends them
+unfoldable pub four_figures : ℕ → ℕ → ℕ → ℕ → ℕ → List ℕ
+four_figures a b c d end = figure a 32 ++ (figure b 32 ++ (figure c 32 ++ figure d end))
 
 -- a buffer with a text put at a place: what stands before and after it is untouched
 unfoldable pub placed : List ℕ → ℕ → List ℕ → List ℕ

@@ -1,5 +1,5 @@
-// The lines that the ledger prints, each with its line's end, put into a buffer, which cannot fail; and the last two as values that `{}` prints, which fail
-// only where the writer does.
+// The lines that the ledger prints, each with its line's end, put into a buffer, which cannot fail; and the last two as values that `{}` prints: what is
+// promised of these is what they wrote where they end with Ok.
 ghost use Rattle.std.specs.Prelude.{◌∷◌, [], ◌++◌, ◌+◌, ◌≤◌, length, Some};
 ghost use Rattle.std.specs.Fmt.{WritesOnOk};
 ghost use Rattle.text.specs.Lines.{RoomFor, Wrote, answer_line, stop_line, till_line, signed};

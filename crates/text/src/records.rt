@@ -1,4 +1,5 @@
-// The lines of the answers in a book: put into a buffer, which cannot fail, and as a value that `{}` prints, which fails only where the writer does.
+// The lines of the answers in a book: put into a buffer, which cannot fail; and as a value that `{}` prints, of which is promised what it wrote where it ends
+// with Ok.
 ghost use Rattle.std.specs.Prelude.{◌+◌, ◌/◌, ◌≤◌, Some, length, drop};
 ghost use Rattle.std.specs.Str.{IsAscii};
 ghost use Rattle.std.specs.Fmt.{WritesOnOk};
